@@ -1,8 +1,7 @@
 -- A pattern that is one of others, looked for from the first on.
-use Rattle.std.proofs.Common.{◌≡◌, ℕ, ◌+◌, ◌<◌, ◌≤◌, Bool, true, false, true≢false, ◌&&◌, ◌||◌, IsTrue, bytes_eq, List, [], ◌∷◌, drop, get_or, length, refl, sym, ap, ap₂, ◌∙◌, subst, arith}
+use Rattle.std.proofs.Common.{◌≡◌, ℕ, ◌+◌, ◌<◌, ◌≤◌, Bool, true, false, true≢false, ◌||◌, IsTrue, bytes_eq, List, ◌∷◌, drop, get_or, length, refl, sym, ap, ap₂, ◌∙◌, subst}
 use Rattle.std.proofs.lemmas.List.{drop_all, drop_more}
 use Rattle.std.proofs.lemmas.Slice.Eq.{bytes_eq-Decides}
-use Rattle.std.specs.List.{list_any}
 use Rattle.avp_patterns.specs.Patterns.{Written}
 use Rattle.avp_patterns.specs.declared.flags.PatternFlags.{PatternFlags}
 use Rattle.avp_unlang.specs.PolicyPatterns.{is_among, same_bool, same_pattern}

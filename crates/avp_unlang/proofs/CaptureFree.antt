@@ -1,21 +1,24 @@
 -- A policy that looks at no captures means what it means by the truth of its conditions alone.
-use Rattle.std.proofs.Common.{◌≡◌, Bool, true, false, cond, not, ◌&&◌, ◌||◌, List, [], ◌∷◌, map, Option, Some, None, refl, sym, ap, ap₂, ◌∙◌, subst, true≢false}
+use Rattle.std.proofs.Common.{◌≡◌, ℕ, Bool, true, false, cond, not, ◌&&◌, ◌||◌, List, [], ◌∷◌, map, Some, None, refl, sym, ap, ap₂, ◌∙◌, subst, true≢false}
 use Rattle.std.specs.List.{list_all, list_any}
+use Rattle.std.specs.Option.{option_map_or}
 use Rattle.avp_lists.specs.declared.lists.State.{State}
 use Rattle.avp_dict.specs.Dictionary.{Dictionary}
-use Rattle.avp_unlang.specs.Captures.{Captures, filled, filled_part, filled_source}
-use Rattle.avp_unlang.specs.CaptureUse.{branch_layer_captures, branch_uses_captures, is_capture, line_uses_captures, source_uses_captures, statement_layer_captures, statement_uses_captures, uses_captures}
-use Rattle.avp_unlang.specs.Evaluations.{Evaluated, Evaluation, all_evaluated, any_evaluated, cond_evaluated, cond_layer_captures, cond_uses_captures, evaluated, itself}
-use Rattle.avp_unlang.specs.Meaning.{Choice, Edited, Failed, LineResult, Meaning, Outcome, Point, after_body, after_line, all_lines, block_meaning, branch_meaning, first_true, going_on, if_given, in_order, line_result, meaning, meaning_of, statement_meaning, unless_stop}
+use Rattle.avp_unlang.specs.Captures.{Captures, filled, filled_part, filled_source, no_captures}
+use Rattle.avp_unlang.specs.CaptureUse.{branch_layer_captures, branch_uses_captures, line_uses_captures, source_uses_captures, statement_layer_captures, statement_uses_captures, uses_captures}
+use Rattle.avp_unlang.specs.Evaluations.{Evaluated, Evaluation, all_evaluated, any_evaluated, cond_evaluated, cond_layer_captures, cond_uses_captures, evaluated, is_capture, itself, side_has_captures}
+use Rattle.avp_unlang.specs.Meaning.{Choice, Edited, Failed, LineResult, Meaning, Point, after_body, after_line, all_lines, branch_meaning, first_true, going_on, in_order, line_result, meaning, meaning_of, statement_meaning, unless_stop}
 use Rattle.avp_unlang.specs.MeaningByTruth as truth
 use Rattle.avp_unlang.specs.MeaningByTruth.{meaning_by_truth}
-use Rattle.avp_unlang.specs.PatternTruth.{is_matched}
-use Rattle.avp_unlang.specs.Truth.{Test, cond_truth_with, truth_by}
+use Rattle.avp_unlang.specs.Relations.{meets}
+use Rattle.avp_unlang.specs.Resolutions.{parts_text}
+use Rattle.avp_unlang.specs.Texts.{filled_text, is_met_by_texts, order_beside, text_order}
+use Rattle.avp_unlang.specs.Truth.{Test, cond_truth_with, printed_by, truth_by}
 use Rattle.avp_unlang.specs.declared.codes.Code.{Code}
 use Rattle.avp_unlang.specs.declared.tree.Branch.{Branch}
 use Rattle.avp_unlang.specs.declared.tree.Cond.{Cond}
 use Rattle.avp_unlang.specs.declared.tree.Cond.TheFolds.{fold-roll-Cond, ind-Cond, map-Cond}
-use Rattle.avp_unlang.specs.declared.tree.Cond.TheOpen.{Cond-F, Any, All, Not, Last, Present, PresentSelected, Compare, CompareMeant, Match, Captured}
+use Rattle.avp_unlang.specs.declared.tree.Cond.TheOpen.{Cond-F, Any, All, Not, Last, Present, PresentSelected, Compare, CompareMeant, CompareTexts, Match, MatchText, MatchGroup, Captured}
 use Rattle.avp_unlang.specs.declared.tree.Cond.TheViews.{roll-Cond}
 use Rattle.avp_unlang.specs.declared.tree.Line.{Line}
 use Rattle.avp_unlang.specs.declared.tree.Part.{Part}
@@ -23,6 +26,9 @@ use Rattle.avp_unlang.specs.declared.tree.Part.TheVariants.{Capture, Instance, M
 use Rattle.avp_unlang.specs.declared.tree.Source.{Source}
 use Rattle.avp_unlang.specs.declared.tree.Source.TheVariants as source
 use Rattle.avp_unlang.specs.declared.tree.Statement.{Statement}
+use Rattle.avp_unlang.specs.declared.tree.TextComparison.{TextComparison}
+use Rattle.avp_unlang.specs.declared.tree.TextSide.{TextSide}
+use Rattle.avp_unlang.specs.declared.tree.TextSide.TheVariants as side
 use Rattle.avp_unlang.specs.declared.tree.Statement.TheFolds.{fold-roll-Statement, fold-roll-Branch, fold-Branch, map-Statement, map-Branch, ind-Statement}
 use Rattle.avp_unlang.specs.declared.tree.Statement.TheOpen.{Statement-F, Branch-F, Update, If, Transaction, Word}
 use Rattle.avp_unlang.specs.declared.tree.Statement.TheViews.{roll-Statement, roll-Branch}
@@ -34,6 +40,32 @@ or_left false b h = refl
 pub or_right : (a b : Bool) → (a || b) ≡ false → b ≡ false
 or_right true b h = absurd (true≢false h)
 or_right false b h = h
+
+-- ---- texts
+
+part_same : (captures : Captures) (part : Part) → is_capture part ≡ false → filled_part captures part ≡ part
+part_same captures (Text octets) h = refl
+part_same captures (Instance list id) h = refl
+part_same captures (Meant list id selection) h = refl
+part_same captures (Capture group) h = absurd (true≢false h)
+
+parts_same : (captures : Captures) (parts : List Part) → list_any is_capture parts ≡ false → map (filled_part captures) parts ≡ parts
+parts_same captures [] h = refl
+parts_same captures (part ∷ parts) h =
+    ap₂ (λ p ps. p ∷ ps) (part_same captures part (or_left (is_capture part) (list_any is_capture parts) h)) (parts_same captures parts (or_right (is_capture part) (list_any is_capture parts) h))
+
+module _ (dictionary : Dictionary) (s : State) (captures : Captures) where
+  text_same : (parts : List Part) → list_any is_capture parts ≡ false → filled_text dictionary s captures parts ≡ filled_text dictionary s no_captures parts
+  text_same parts h = ap (parts_text dictionary s) (parts_same captures parts h ∙ sym (parts_same no_captures parts h))
+
+  order_same : (left : TextSide) (text : List ℕ) → side_has_captures left ≡ false → order_beside dictionary s captures left text ≡ order_beside dictionary s no_captures left text
+  order_same (side.Text parts) text h = ap (λ os. Some (text_order os text)) (text_same parts h)
+  order_same (side.Instance list id selection) text h = refl
+
+  met_same : (k : TextComparison) → (side_has_captures k.left || list_any is_capture k.right) ≡ false → is_met_by_texts dictionary k s captures ≡ is_met_by_texts dictionary k s no_captures
+  met_same k h =
+      ap (λ text. option_map_or (meets k.relation) (order_beside dictionary s captures k.left text) false) (text_same k.right (or_right (side_has_captures k.left) (list_any is_capture k.right) h))
+      ∙ ap (λ o. option_map_or (meets k.relation) o false) (order_same k.left (filled_text dictionary s no_captures k.right) (or_left (side_has_captures k.left) (list_any is_capture k.right) h))
 
 -- ---- conditions
 
@@ -81,7 +113,7 @@ module _ (dictionary : Dictionary) (s : State) (code : Code) where
       ∙ ap (λ b. b && rest) (e.1 (or_left (cond_uses_captures e.0) used h) captures)
 
   layer_same : (y : Cond-F Such) → cond_layer_captures (map-Cond Cond Bool cond_uses_captures (cond_layer y)) ≡ false
-      → (captures : Captures) → (cond_evaluated dictionary (map-Cond Cond Evaluation (evaluated dictionary) (cond_layer y)) s code captures).truth ≡ cond_truth_with (is_matched dictionary) (map-Cond Cond Test (truth_by dictionary) (cond_layer y)) s code
+      → (captures : Captures) → (cond_evaluated dictionary (map-Cond Cond Evaluation (evaluated dictionary) (cond_layer y)) s code captures).truth ≡ cond_truth_with (printed_by dictionary) (map-Cond Cond Test (truth_by dictionary) (cond_layer y)) s code
   layer_same (Any parts) h captures = any_same parts h captures
   layer_same (All parts) h captures = all_same parts h captures
   layer_same (Not part) h captures = ap not (part.1 h captures)
@@ -90,34 +122,26 @@ module _ (dictionary : Dictionary) (s : State) (code : Code) where
   layer_same (PresentSelected list id selection) h captures = refl
   layer_same (Compare c) h captures = refl
   layer_same (CompareMeant c) h captures = refl
+  layer_same (CompareTexts k) h captures = met_same dictionary s captures k h
   layer_same (Match m) h captures = refl
+  layer_same (MatchText m) h captures = refl
+  layer_same (MatchGroup m) h captures = absurd (true≢false h)
   layer_same (Captured group) h captures = absurd (true≢false h)
 
   cond_rolled : (x : Cond-F Cond)
       → (cond_layer_captures (map-Cond Cond Bool cond_uses_captures x) ≡ false
-      → (captures : Captures) → (cond_evaluated dictionary (map-Cond Cond Evaluation (evaluated dictionary) x) s code captures).truth ≡ cond_truth_with (is_matched dictionary) (map-Cond Cond Test (truth_by dictionary) x) s code)
+      → (captures : Captures) → (cond_evaluated dictionary (map-Cond Cond Evaluation (evaluated dictionary) x) s code captures).truth ≡ cond_truth_with (printed_by dictionary) (map-Cond Cond Test (truth_by dictionary) x) s code)
       → IsSame (roll-Cond x)
   unfolding cond_uses_captures evaluated truth_by
   cond_rolled x h free captures =
       ap (λ (e : Evaluation). (e s code captures).truth) (fold-roll-Cond Evaluation (cond_evaluated dictionary) x)
       ∙ h (sym (fold-roll-Cond Bool cond_layer_captures x) ∙ free) captures
-      ∙ ap here (sym (fold-roll-Cond Test (cond_truth_with (is_matched dictionary)) x))
+      ∙ ap here (sym (fold-roll-Cond Test (cond_truth_with (printed_by dictionary)) x))
 
   pub evaluated_truth : (c : Cond) → cond_uses_captures c ≡ false → (captures : Captures) → (evaluated dictionary c s code captures).truth ≡ truth_by dictionary c s code
   evaluated_truth = ind-Cond IsSame (λ x y is. subst (λ z. IsSame (roll-Cond z)) is (cond_rolled (cond_layer y) (layer_same y)))
 
 -- ---- update lines
-
-part_same : (captures : Captures) (part : Part) → is_capture part ≡ false → filled_part captures part ≡ part
-part_same captures (Text octets) h = refl
-part_same captures (Instance list id) h = refl
-part_same captures (Meant list id selection) h = refl
-part_same captures (Capture group) h = absurd (true≢false h)
-
-parts_same : (captures : Captures) (parts : List Part) → list_any is_capture parts ≡ false → map (filled_part captures) parts ≡ parts
-parts_same captures [] h = refl
-parts_same captures (part ∷ parts) h =
-    ap₂ (λ p ps. p ∷ ps) (part_same captures part (or_left (is_capture part) (list_any is_capture parts) h)) (parts_same captures parts (or_right (is_capture part) (list_any is_capture parts) h))
 
 source_same : (captures : Captures) (from : Source) → source_uses_captures from ≡ false → filled_source captures from ≡ from
 source_same captures (source.Text raw parts) h = ap (source.Text raw) (parts_same captures parts h)

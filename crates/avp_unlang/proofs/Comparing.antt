@@ -4,6 +4,7 @@ use Rattle.std.specs.Prelude.{IfSome, All as Each, is_some}
 use Rattle.std.specs.List.{list_all}
 use Rattle.std.specs.Option.{option_map, option_map_or, unwrap_or}
 use Rattle.avp_lists.specs.Instances.{first_instance, front, has_id}
+use Rattle.avp_lists.specs.Selections.{first_selected_instance}
 use Rattle.avp_lists.specs.States.{list_of}
 use Rattle.avp_lists.specs.declared.pairs.AttrId.{AttrId}
 use Rattle.avp_lists.specs.declared.pairs.Pair.{Pair}
@@ -18,11 +19,11 @@ use Rattle.avp_forms.specs.Expansions.{has_few_digits, is_printed_by_type, is_sh
 use Rattle.avp_dict.specs.declared.entries.Kind.{Kind}
 use Rattle.avp_dict.specs.declared.entries.Kind.TheVariants as kinds
 use Rattle.avp_dict.specs.Dictionary.{Dictionary}
-use Rattle.avp_unlang.specs.Suiting.{cond_suits, cond_layer_suits, comparand_suits, comparison_suits, itself, same_kind}
+use Rattle.avp_unlang.specs.Suiting.{cond_suits, cond_layer_suits, comparand_suits, comparison_suits, itself, part_suits, same_kind, side_suits}
 use Rattle.avp_unlang.specs.References.{type_of}
 use Rattle.avp_unlang.specs.Resolutions.{StateFits, pair_of}
-use Rattle.avp_unlang.specs.Truth.{comparable_by, compared_with, cond_comparable_by, first_value, is_alike, is_comparable, value_in}
-use Rattle.avp_dict.specs.Limits.{extended_room, greatest_length, max_octets, vendor_room}
+use Rattle.avp_unlang.specs.Truth.{comparable_by, compared_with, cond_comparable_by, first_value, is_alike, is_comparable, is_printable_at, part_printable, side_printable, value_in}
+use Rattle.avp_dict.specs.Limits.{greatest_length, max_octets, vendor_room}
 use Rattle.avp_dict.specs.AttributeNumbers.{max_plain}
 use Rattle.avp_dict.specs.Names.{vendor_format}
 use Rattle.avp_dict.specs.declared.entries.Format.{Format}
@@ -34,12 +35,16 @@ use Rattle.avp_unlang.specs.PatternTruth.{instance_in, is_matchable_by}
 use Rattle.avp_unlang.specs.declared.tree.Matching.{Matching}
 use Rattle.std.proofs.lemmas.Bool.{not-true}
 use Rattle.std.proofs.lemmas.Bool.Decides.{nat_tests}
+use Rattle.avp_unlang.specs.declared.tree.Part.{Part}
+use Rattle.avp_unlang.specs.declared.tree.Part.TheVariants as part
+use Rattle.avp_unlang.specs.declared.tree.TextSide.{TextSide}
+use Rattle.avp_unlang.specs.declared.tree.TextSide.TheVariants as side
 use Rattle.avp_unlang.specs.declared.tree.Comparand.{Comparand}
 use Rattle.avp_unlang.specs.declared.tree.Comparand.TheVariants.{Literal, Instance}
 use Rattle.avp_unlang.specs.declared.tree.Comparison.{Comparison}
 use Rattle.avp_unlang.specs.declared.tree.Cond.{Cond}
 use Rattle.avp_unlang.specs.declared.tree.Cond.TheFolds.{fold-roll-Cond, ind-Cond, map-Cond}
-use Rattle.avp_unlang.specs.declared.tree.Cond.TheOpen.{Cond-F, Any, All, Not, Last, Present, PresentSelected, Compare, CompareMeant, Match, Captured}
+use Rattle.avp_unlang.specs.declared.tree.Cond.TheOpen.{Cond-F, Any, All, Not, Last, Present, PresentSelected, Compare, CompareMeant, CompareTexts, Match, MatchText, MatchGroup, Captured}
 use Rattle.avp_unlang.specs.declared.tree.Cond.TheViews.{roll-Cond}
 use Rattle.std.proofs.lemmas.List.Elements.{All-head, All-tail}
 use Rattle.avp_lists.proofs.Equality.{same_id}
@@ -202,14 +207,39 @@ module _ (dictionary : Dictionary) where
   first_passes f (p ∷ ps) h =
       passes_by f p ps (f p) refl (All-head (λ q. fits q dictionary ≡ true) p ps h) (first_passes f ps (All-tail (λ q. fits q dictionary ≡ true) p ps h))
 
-  matchable_of : (m : Matching) (o : Option Pair) → is_container m.id ≡ false → IfSome o (λ p. (fits p dictionary ≡ true) × (is_selected m.selection m.id p ≡ true)) → option_map_or (is_matchable_by dictionary) o true ≡ true
-  matchable_of m None values h = refl
-  matchable_of m (Some p) values h =
-      let same : p.id ≡ m.id = same_id p.id m.id (selected_id m.selection m.id p h.1) in
-      matchable_fits p (ap (λ id. is_container id) same ∙ values) h.0
+  printable_of : (id : AttrId) (selection : Selection) (o : Option Pair) → is_container id ≡ false → IfSome o (λ p. (fits p dictionary ≡ true) × (is_selected selection id p ≡ true)) → option_map_or (is_matchable_by dictionary) o true ≡ true
+  printable_of id selection None values h = refl
+  printable_of id selection (Some p) values h =
+      let same : p.id ≡ id = same_id p.id id (selected_id selection id p h.1) in
+      matchable_fits p (ap (λ i. is_container i) same ∙ values) h.0
+
+  printable_first : (s : State) (list : Name) (id : AttrId) (selection : Selection) → StateFits dictionary s → is_container id ≡ false → is_printable_at dictionary list id selection s ≡ true
+  printable_first s list id selection fit values =
+      printable_of id selection (first_selected_instance selection id (list_of list s)) values (first_passes (is_selected selection id) (list_of list s) (fit list))
 
   matchable_first : (s : State) (m : Matching) → StateFits dictionary s → is_container m.id ≡ false → option_map_or (is_matchable_by dictionary) (instance_in m s) true ≡ true
-  matchable_first s m fit values = matchable_of m (instance_in m s) values (first_passes (is_selected m.selection m.id) (list_of m.list s) (fit m.list))
+  matchable_first s m fit values = printable_first s m.list m.id m.selection fit values
+
+  -- ---- texts
+
+  both_hold : (a b : Bool) → a ≡ true → b ≡ true → (a && b) ≡ true
+  both_hold a b e f = rw e f
+
+  part_is_printable : (s : State) → StateFits dictionary s → (x : Part) → part_suits x ≡ true → part_printable dictionary s x ≡ true
+  part_is_printable s fit (part.Text os) h = refl
+  part_is_printable s fit (part.Instance list id) h = cc
+  part_is_printable s fit (part.Meant list id selection) h = printable_first s list id selection fit (not-true (is_container id) h)
+  part_is_printable s fit (part.Capture group) h = refl
+
+  parts_are_printable : (s : State) → StateFits dictionary s → (xs : List Part) → list_all part_suits xs ≡ true → list_all (part_printable dictionary s) xs ≡ true
+  parts_are_printable s fit [] h = refl
+  parts_are_printable s fit (x ∷ xs) h =
+      both_hold (part_printable dictionary s x) (list_all (part_printable dictionary s) xs)
+      (part_is_printable s fit x (and_left (part_suits x) (list_all part_suits xs) h)) (parts_are_printable s fit xs (and_right (part_suits x) (list_all part_suits xs) h))
+
+  side_is_printable : (s : State) → StateFits dictionary s → (x : TextSide) → side_suits dictionary x ≡ true → side_printable dictionary s x ≡ true
+  side_is_printable s fit (side.Text parts) h = parts_are_printable s fit parts h
+  side_is_printable s fit (side.Instance list id selection) h = refl
 
   -- ---- conditions
 
@@ -240,7 +270,13 @@ module _ (dictionary : Dictionary) where
     layer_testable (Present list id) h = refl
     layer_testable (PresentSelected list id selection) h = refl
     layer_testable (CompareMeant c) h = refl
+    layer_testable (CompareTexts c) h =
+        both_hold (side_printable dictionary s c.left) (list_all (part_printable dictionary s) c.right)
+        (side_is_printable s fit c.left (and_left (side_suits dictionary c.left) (list_all part_suits c.right) h))
+        (parts_are_printable s fit c.right (and_right (side_suits dictionary c.left) (list_all part_suits c.right) h))
     layer_testable (Match m) h = matchable_first s m fit (not-true (is_container m.id) h)
+    layer_testable (MatchText m) h = matchable_first s m fit (not-true (is_container m.id) h)
+    layer_testable (MatchGroup m) h = refl
     layer_testable (Compare c) h = comparison_comparable s c fit h
     layer_testable (Captured group) h = refl
 

@@ -1,10 +1,11 @@
 -- A place spells at most one condition, and how refusals inside one are refusals of it.
-use Rattle.std.proofs.Common.{◌≡◌, ℕ, zero, suc, Bool, true, false, List, ap, Option, Some, None, Result, refl, sym, subst, ◌∙◌}
+use Rattle.std.proofs.Common.{◌≡◌, inl, inr, ℕ, zero, suc, Bool, true, false, List, ap, Option, Some, None, Result, refl, sym, subst, ◌∙◌}
 use Rattle.std.specs.Option.{option_and_then, option_map}
 use Rattle.avp_dict.specs.Dictionary.{Dictionary}
+use Rattle.avp_dict.specs.declared.value.quotes.QuoteMark.{QuoteMark}
 use Rattle.avp_dict.specs.declared.value.quotes.QuoteMark.TheVariants.{Double, Single}
 use Rattle.avp_dict.specs.Quotes.{single_quoted_octets}
-use Rattle.avp_forms.specs.declared.profiles.Profile.TheVariants.{Wider}
+use Rattle.avp_forms.specs.declared.profiles.Profile.TheVariants.{Plain, Wider}
 use Rattle.avp_forms.specs.declared.targets.Target.{Target}
 use Rattle.avp_forms.specs.declared.profiles.Profile.{Profile}
 use Rattle.avp_unlang.specs.declared.codes.Code.{Code}
@@ -19,11 +20,14 @@ use Rattle.avp_unlang.specs.declared.text.values.Written.TheVariants as written
 use Rattle.avp_unlang.specs.declared.tree.Comparand.{Comparand}
 use Rattle.avp_unlang.specs.declared.tree.Comparand.TheVariants.{Literal}
 use Rattle.avp_unlang.specs.declared.tree.Cond.{Cond}
-use Rattle.avp_unlang.specs.declared.tree.Cond.TheVariants.{Not, Last, Compare, CompareMeant, Match, Captured}
+use Rattle.avp_unlang.specs.declared.tree.Cond.TheVariants.{Not, Last, Compare, CompareMeant, CompareTexts, Match, Captured}
 use Rattle.avp_unlang.specs.declared.tree.MeantComparand.{MeantComparand}
+use Rattle.avp_unlang.specs.declared.tree.Part.{Part}
 use Rattle.avp_unlang.specs.declared.tree.Relation.{Relation}
-use Rattle.avp_unlang.specs.Conditions.{relation_of, plain_literal, plain_octets, ComparandOf, ComparandIs, comparison_of, ComparedBy, ComparedFrom, ComparedIs, MatchedBy, MatchedOr, MeantBy, MeantFrom, MeantIs, RelatedBy, RelatedIs, WordFrom, instance_compared, is_by_meaning, matcher_in, matching_of, meant_comparison, meant_literal, present_of, any_of, all_of, Both, Either, Negated, Closed, OperandFrom, OperandIs, Within}
-use Rattle.avp_unlang.specs.Forms.{Form, After, Chain, Gives, Refuses, Reads}
+use Rattle.avp_unlang.specs.declared.tree.TextSide.{TextSide}
+use Rattle.avp_unlang.specs.declared.tree.TextSide.TheVariants as side
+use Rattle.avp_unlang.specs.Conditions.{relation_of, plain_literal, plain_octets, plain_parts, puts_in, reference_alone, side_of, text_comparison, text_match, is_text_beside, QuotedParts, RelatedAs, RightFrom, RightIs, TextBeside, TextComparedFrom, TextOperand, TextRelated, TextRelatedFrom, TextsBy, ValueRelated, ComparandOf, ComparandIs, comparison_of, ComparedBy, ComparedFrom, ComparedIs, MatchedBy, MatchedOr, MeantBy, MeantFrom, MeantIs, RelatedBy, RelatedIs, WordFrom, instance_compared, is_by_meaning, matcher_in, matching_of, meant_comparison, meant_literal, present_of, any_of, all_of, Both, Either, Negated, Closed, OperandFrom, OperandIs, Within}
+use Rattle.avp_unlang.specs.Forms.{Form, After, Becomes, Chain, Gives, Refuses, Reads}
 use Rattle.avp_unlang.specs.Parts.{group_in}
 use Rattle.avp_unlang.specs.Places.{Place}
 use Rattle.avp_unlang.specs.References.{AlikeIs, ReadableIs, type_of}
@@ -33,6 +37,7 @@ use Rattle.avp_unlang.specs.Words.{code_named}
 use Rattle.avp_unlang.proofs.Chains.{chain_one}
 use Rattle.avp_unlang.proofs.Determined.{IsOne, some_is, becomes_one, gives_one, after_one, then_one, then_stops, then_on, after_stops}
 use Rattle.avp_unlang.proofs.LinesOne.{alike_one, follows_sure, made_one, readable_one}
+use Rattle.avp_unlang.proofs.PartsOne.{parts_one}
 
 -- ---- operands with a sign between them
 
@@ -113,15 +118,52 @@ module _ (profile : Profile) (dictionary : Dictionary) where
   related_one true found relation p x y r s h g = meant_by_one found relation p x y r s h g
   related_one false found relation p x y r s h g = compared_by_one found relation p x y r s h g
 
-  -- a comparison of the one kind or the other
+  -- a comparison with a value, of the one kind or the other
   pub related_reads : (found : Reference) (relation : Relation) (p : Place) (b : Bool) → b ≡ is_by_meaning profile (type_of dictionary found.target.named.id) → (r : Result (Cond × Place) Refusal)
-      → Reads (RelatedBy b profile dictionary found relation p) r → Reads (RelatedIs profile dictionary found relation p) r
+      → Reads (RelatedBy b profile dictionary found relation p) r → Reads (ValueRelated profile dictionary found relation p) r
   related_reads found relation p b by r reads = subst (λ k. Reads (RelatedBy k profile dictionary found relation p) r) by reads
+
+  -- ---- texts
+
+  pub quoted_one : (mark : QuoteMark) (octets : List ℕ) (xs ys : List Part) → QuotedParts dictionary mark octets xs → QuotedParts dictionary mark octets ys → xs ≡ ys
+  quoted_one Double octets xs ys h g = parts_one Wider dictionary octets xs ys h g
+  quoted_one Single octets xs ys h g = h ∙ sym g
+
+  right_from_one : (token : Token) → IsOne (RightFrom dictionary token)
+  right_from_one (Word word) p x y r s h g = gives_one (plain_parts word) p x y r s h g
+  right_from_one (Quoted mark octets) p x y r s h g = (quoted_one mark octets x y h.0 g.0, h.1 ∙ sym g.1)
+  right_from_one _ p x y r s h g = absurd h
+
+  right_one : IsOne (RightIs dictionary)
+  right_one p x y r s h g = right_from_one (next_token p).0 (next_token p).1 x y r s h g
+
+  texts_one : (left : TextSide) (relation : Relation) → IsOne (TextsBy dictionary left relation)
+  texts_one left relation =
+      then_one (RightIs dictionary) (λ right. Gives (CompareTexts (text_comparison left relation right))) right_one (λ right. gives_one (CompareTexts (text_comparison left relation right)))
+
+  beside_one : (found : Reference) (relation : Relation) (o : Option Reference) → IsOne (TextBeside dictionary found relation o)
+  beside_one found relation None p x y r s h g = texts_one (side_of dictionary found) relation p x y r s h.1 g.1
+  beside_one found relation (Some other) p x y r s (inl h) (inl g) = (h.1 ∙ sym g.1, h.2 ∙ sym g.2)
+  beside_one found relation (Some other) p x y r s (inl h) (inr g) = absurd (g.0 h.0)
+  beside_one found relation (Some other) p x y r s (inr h) (inl g) = absurd (h.0 g.0)
+  beside_one found relation (Some other) p x y r s (inr h) (inr g) = texts_one (side_of dictionary found) relation p x y r s h.1.1 g.1.1
+
+  related_as_one : (b : Bool) (found : Reference) (relation : Relation) → IsOne (RelatedAs b profile dictionary found relation)
+  related_as_one true found relation p x y r s h g = beside_one found relation (reference_alone dictionary (next_token p).0) p x y r s h.1 g.1
+  related_as_one false found relation p x y r s h g = related_one (is_by_meaning profile (type_of dictionary found.target.named.id)) found relation p x y r s h g
+
+  -- a text that puts something in, or a value
+  pub related_as_reads : (found : Reference) (relation : Relation) (p : Place) (b : Bool) → b ≡ is_text_beside profile (next_token p).0 → (r : Result (Cond × Place) Refusal)
+      → Reads (RelatedAs b profile dictionary found relation p) r → Reads (RelatedIs profile dictionary found relation p) r
+  related_as_reads found relation p b by r reads = subst (λ k. Reads (RelatedAs k profile dictionary found relation p) r) by reads
+
+module _ (profile : Profile) (dictionary : Dictionary) where
+  -- ---- references
 
   compared_from_one : (found : Reference) (o : Option Relation) (p : Place) → IsOne (ComparedFrom profile dictionary found o p)
   compared_from_one found None p after x y r s h g = gives_one (present_of dictionary found found.target.tag) p x y r s h g
   compared_from_one found (Some relation) p after x y r s h g =
-      related_one (is_by_meaning profile (type_of dictionary found.target.named.id)) found relation after x y r s h g
+      related_as_one profile dictionary (is_text_beside profile (next_token after).0) found relation after x y r s h g
 
   matched_or_one : (found : Reference) (o : Option Matcher) (p : Place) (next : Token × Place) (x y : Cond) (r s : Place)
       → MatchedOr profile dictionary found o p next x r → MatchedOr profile dictionary found o p next y s → (x ≡ y) × (r ≡ s)
@@ -149,6 +191,31 @@ module _ (profile : Profile) (dictionary : Dictionary) where
   word_one None word p x y r s h g =
       compared_one g.0 p x y r s (subst (λ (n : Reference). ComparedIs profile dictionary n p x r) (some_is h.0 g.0 (sym h.1 ∙ g.1)) h.2) g.2
 
+  -- ---- texts on the left
+
+  text_related_from_one : (alone : Option Reference) (b : Bool) (parts : List Part) (relation : Relation) → IsOne (TextRelatedFrom dictionary alone b parts relation)
+  text_related_from_one None b parts relation p x y r s h g = texts_one profile dictionary (side.Text parts) relation p x y r s h g
+  text_related_from_one (Some found) true parts relation p x y r s h g = texts_one profile dictionary (side.Text parts) relation p x y r s h g
+  text_related_from_one (Some found) false parts relation p x y r s h g = related_one Wider dictionary (is_by_meaning Wider (type_of dictionary found.target.named.id)) found relation p x y r s h g
+
+  text_related_one : (alone : Option Reference) (parts : List Part) (relation : Relation) → IsOne (TextRelated dictionary alone parts relation)
+  text_related_one alone parts relation p x y r s h g = text_related_from_one alone (puts_in (next_token p).0) parts relation p x y r s h.1 g.1
+
+  text_from_one : (mark : QuoteMark) (octets : List ℕ) (o : Option Matcher) (relation : Option Relation) (p : Place) → IsOne (TextComparedFrom dictionary mark octets o relation p)
+  text_from_one mark octets (Some m) relation p after x y r s h g =
+      let same = quoted_one profile dictionary mark octets h.0 g.0 h.1 g.1 in
+      becomes_one (text_match m g.0) after x y r s (subst (λ parts. Becomes (text_match m parts) after x r) same h.2.1) g.2.1
+  text_from_one mark octets None (Some relation) p after x y r s h g =
+      let same = quoted_one profile dictionary mark octets h.0 g.0 h.1 g.1 in
+      let alone = reference_alone dictionary (Quoted mark octets) in
+      text_related_one alone g.0 relation after x y r s (subst (λ parts. TextRelated dictionary alone parts relation after x r) same h.2) g.2
+  text_from_one Double octets None None p after x y r s h g = becomes_one (option_map Captured (group_in Wider octets)) p x y r s h g
+  text_from_one Single octets None None p after x y r s h g = absurd h
+
+  text_operand_one : (q : Profile) (mark : QuoteMark) (octets : List ℕ) → IsOne (TextOperand q dictionary mark octets)
+  text_operand_one Plain mark octets p x y r s h g = absurd h
+  text_operand_one Wider mark octets p x y r s h g = text_from_one mark octets (matcher_in Wider (next_token p).0) (relation_of (next_token p).0) p (next_token p).1 x y r s h g
+
   -- ---- operands
 
   from_one : (inner : Form Place Cond) → IsOne inner → (token : Token) → IsOne (OperandFrom profile dictionary inner token)
@@ -157,7 +224,7 @@ module _ (profile : Profile) (dictionary : Dictionary) where
   from_one inner one (Operator sign.Reference) p x y r s h g =
       then_one (ReadableIs profile dictionary) (ComparedIs profile dictionary) (readable_one profile dictionary) compared_one p x y r s h g
   from_one inner one (Word word) p x y r s h g = word_one (code_named word) word p x y r s h g
-  from_one inner one (Quoted Double text) p x y r s h g = becomes_one (option_map Captured (group_in profile text)) p x y r s h g
+  from_one inner one (Quoted mark text) p x y r s h g = text_operand_one profile mark text p x y r s h g
   from_one inner one _ p x y r s h g = absurd h
 
   pub within_one : (n : ℕ) → IsOne (Within profile dictionary n)

@@ -12,15 +12,18 @@ use Rattle.avp_dict.specs.Dictionary.{Dictionary}
 use Rattle.avp_unlang.specs.Captures.{Captures, captured, captures_after}
 use Rattle.avp_unlang.specs.Evaluations.{Evaluated, Evaluation, all_evaluated, any_evaluated, cond_evaluated, decided, evaluated, negated}
 use Rattle.avp_unlang.specs.PatternTruth.{is_matched}
+use Rattle.avp_unlang.specs.Texts.{captures_after_group, captures_after_text, is_group_matched, is_met_by_texts, is_text_matched}
 use Rattle.avp_unlang.specs.Truth.{is_met, is_met_by_meaning, same_code}
 use Rattle.avp_unlang.specs.declared.codes.Code.{Code}
 use Rattle.avp_unlang.specs.declared.tree.Comparison.{Comparison}
 use Rattle.avp_unlang.specs.declared.tree.Cond.{Cond}
+use Rattle.avp_unlang.specs.declared.tree.GroupMatching.{GroupMatching}
 use Rattle.avp_unlang.specs.declared.tree.Matching.{Matching}
 use Rattle.avp_unlang.specs.declared.tree.MeantComparison.{MeantComparison}
+use Rattle.avp_unlang.specs.declared.tree.TextComparison.{TextComparison}
 use Rattle.avp_unlang.specs.declared.tree.Cond.TheFolds.{fold-roll-Cond}
 use Rattle.avp_unlang.specs.declared.tree.Cond.TheOpen as layer
-use Rattle.avp_unlang.specs.declared.tree.Cond.TheVariants.{Any, All, Not, Last, Present, PresentSelected, Compare, CompareMeant, Match, Captured, rolls-Any, rolls-All, rolls-Not, rolls-Last, rolls-Present, rolls-PresentSelected, rolls-Compare, rolls-CompareMeant, rolls-Match, rolls-Captured}
+use Rattle.avp_unlang.specs.declared.tree.Cond.TheVariants.{Any, All, Not, Last, Present, PresentSelected, Compare, CompareMeant, CompareTexts, Match, MatchText, MatchGroup, Captured, rolls-Any, rolls-All, rolls-Not, rolls-Last, rolls-Present, rolls-PresentSelected, rolls-Compare, rolls-CompareMeant, rolls-CompareTexts, rolls-Match, rolls-MatchText, rolls-MatchGroup, rolls-Captured}
 use Rattle.avp_unlang.proofs.Truths.{found_first}
 
 module _ (dictionary : Dictionary) where
@@ -78,6 +81,24 @@ module _ (dictionary : Dictionary) where
   evaluated_match m s c captures =
       ap (λ x. evaluated dictionary x s c captures) (sym (rolls-Match m))
       ∙ ap (λ (e : Evaluation). e s c captures) (fold-roll-Cond Evaluation (cond_evaluated dictionary) (layer.Match m))
+
+  pub evaluated_compare_texts : (k : TextComparison) (s : State) (c : Code) (captures : Captures) → evaluated dictionary (CompareTexts k) s c captures ≡ decided (is_met_by_texts dictionary k s captures) captures
+  unfolding evaluated
+  evaluated_compare_texts k s c captures =
+      ap (λ x. evaluated dictionary x s c captures) (sym (rolls-CompareTexts k))
+      ∙ ap (λ (e : Evaluation). e s c captures) (fold-roll-Cond Evaluation (cond_evaluated dictionary) (layer.CompareTexts k))
+
+  pub evaluated_match_text : (m : Matching) (s : State) (c : Code) (captures : Captures) → evaluated dictionary (MatchText m) s c captures ≡ decided (is_text_matched dictionary m s) (captures_after_text dictionary m s)
+  unfolding evaluated
+  evaluated_match_text m s c captures =
+      ap (λ x. evaluated dictionary x s c captures) (sym (rolls-MatchText m))
+      ∙ ap (λ (e : Evaluation). e s c captures) (fold-roll-Cond Evaluation (cond_evaluated dictionary) (layer.MatchText m))
+
+  pub evaluated_match_group : (m : GroupMatching) (s : State) (c : Code) (captures : Captures) → evaluated dictionary (MatchGroup m) s c captures ≡ decided (is_group_matched m captures) (captures_after_group m captures)
+  unfolding evaluated
+  evaluated_match_group m s c captures =
+      ap (λ x. evaluated dictionary x s c captures) (sym (rolls-MatchGroup m))
+      ∙ ap (λ (e : Evaluation). e s c captures) (fold-roll-Cond Evaluation (cond_evaluated dictionary) (layer.MatchGroup m))
 
   pub evaluated_captured : (group : ℕ) (s : State) (c : Code) (captures : Captures) → evaluated dictionary (Captured group) s c captures ≡ decided (nat_lt 0 (length (captured group captures))) captures
   unfolding evaluated

@@ -1,16 +1,17 @@
 -- What compares with patterns among some compares with patterns among more.
-use Rattle.std.proofs.Common.{◌≡◌, ◌<◌, ◌+◌, ℕ, Bool, true, false, ◌&&◌, ◌||◌, List, [], ◌∷◌, ◌++◌, get_or, length, map, take, Option, None, Some, refl, sym, ap, ◌∙◌, subst}
+use Rattle.std.proofs.Common.{◌≡◌, ◌<◌, ◌+◌, ℕ, Bool, true, false, ◌&&◌, ◌||◌, List, [], ◌∷◌, ◌++◌, get_or, length, map, take, None, Some, refl, sym, ap, ◌∙◌, subst}
 use Rattle.std.proofs.Math.Bool.{or-true}
 use Rattle.std.proofs.lemmas.List.Folds.{list_all_more, list_any-append}
 use Rattle.std.proofs.lemmas.Slice.Eq.{bytes_eq-Decides}
 use Rattle.std.specs.List.{list_all}
 use Rattle.avp_patterns.specs.Patterns.{Written}
 use Rattle.avp_unlang.specs.PatternTruth.{pattern_in}
-use Rattle.avp_unlang.specs.PolicyPatterns.{branch_layer_passes, branch_patterns_pass, branches_pass, cond_layer_passes, cond_patterns_pass, is_among, passes, same_bool, same_pattern, statement_layer_passes, statement_patterns_pass}
+use Rattle.avp_unlang.specs.PolicyPatterns.{branch_layer_passes, branch_patterns_pass, cond_layer_passes, cond_patterns_pass, is_among, passes, same_bool, same_pattern, statement_layer_passes, statement_patterns_pass}
+use Rattle.avp_unlang.specs.Texts.{group_pattern}
 use Rattle.avp_unlang.specs.declared.tree.Branch.{Branch}
 use Rattle.avp_unlang.specs.declared.tree.Cond.{Cond}
 use Rattle.avp_unlang.specs.declared.tree.Cond.TheFolds.{fold-roll-Cond, ind-Cond, map-Cond}
-use Rattle.avp_unlang.specs.declared.tree.Cond.TheOpen.{Cond-F, Any, All, Not, Last, Present, PresentSelected, Compare, CompareMeant, Match, Captured}
+use Rattle.avp_unlang.specs.declared.tree.Cond.TheOpen.{Cond-F, Any, All, Not, Last, Present, PresentSelected, Compare, CompareMeant, CompareTexts, Match, MatchText, MatchGroup, Captured}
 use Rattle.avp_unlang.specs.declared.tree.Cond.TheViews.{roll-Cond}
 use Rattle.avp_unlang.specs.declared.tree.Statement.{Statement}
 use Rattle.avp_unlang.specs.declared.tree.Statement.TheFolds.{fold-roll-Branch, fold-roll-Statement, ind-Branch, ind-Statement, map-Branch, map-Statement}
@@ -57,7 +58,10 @@ module _ (f g : Written → Bool) (more : (w : Written) → f w ≡ true → g w
   layer_kept (PresentSelected list id selection) h = refl
   layer_kept (Compare c) h = refl
   layer_kept (CompareMeant c) h = refl
+  layer_kept (CompareTexts c) h = refl
   layer_kept (Match m) h = more (pattern_in m) h
+  layer_kept (MatchText m) h = more (pattern_in m) h
+  layer_kept (MatchGroup m) h = more (group_pattern m) h
   layer_kept (Captured group) h = refl
 
   rolled : (x : Cond-F Cond) → (cond_layer_passes f (map-Cond Cond Bool (cond_patterns_pass f) x) ≡ true → cond_layer_passes g (map-Cond Cond Bool (cond_patterns_pass g) x) ≡ true) → IsKept (roll-Cond x)

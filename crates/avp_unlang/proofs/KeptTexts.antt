@@ -1,5 +1,5 @@
 -- What is compared with a pattern has room where what it captures is kept.
-use Rattle.std.proofs.Common.{◌≡◌, ◌≤◌, ◌+◌, ◌*◌, ℕ, true, false, ◌&&◌, List, length, arith, Option, None, Some, IsTrue, refl}
+use Rattle.std.proofs.Common.{◌≡◌, ◌≤◌, ℕ, true, ◌&&◌, List, length, arith, Option, None, Some, IsTrue, refl}
 use Rattle.std.specs.Prelude.{IfSome}
 use Rattle.std.specs.Option.{option_map_or}
 use Rattle.avp_lists.specs.States.{list_of}

@@ -10,11 +10,13 @@ pub mod Determined
 pub mod EvaluatedConds
 pub mod FirstInstances
 pub mod KeptEdits
-pub mod KeptReplies
 pub mod KeptPatterns
+pub mod KeptReplies
 pub mod KeptTexts
 pub mod LinesOne
 pub mod MatchedGroups
+pub mod MovedGroups
+pub mod PairsRead
 pub mod PartsOne
 pub mod PatternFree
 pub mod PlainPatterns
@@ -28,6 +30,7 @@ pub mod RefusedOnceConditions
 pub mod RefusedOnceLines
 pub mod RefusedOnceParts
 pub mod RefusedOnceStatements
+pub mod RefusedOnceTexts
 pub mod RefusedPolicy
 pub mod RefusedReads
 pub mod RefusedTokens
@@ -35,10 +38,13 @@ pub mod SmallKinds
 pub mod SpelledParts
 pub mod SpelledSuits
 pub mod StatementDepths
-pub mod StillComparable
 pub mod StatementsOne
+pub mod TextOrders
+pub mod TextSteps
+pub mod TextsRead
 pub mod TokenLengths
 pub mod Truths
 pub mod TypedValues
+pub mod UnreadOctets
 pub mod UsedCaptures
 pub mod ValueRuns

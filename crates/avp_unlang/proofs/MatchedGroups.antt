@@ -1,5 +1,5 @@
 -- Whether a pattern matches, by its groups; and what a group captured, by its span.
-use Rattle.std.proofs.Common.{◌≡◌, ℕ, true, false, List, [], Option, None, Some, refl, sym, ap, ◌∙◌, is_some, option_map}
+use Rattle.std.proofs.Common.{◌≡◌, ℕ, List, Option, None, Some, refl, ap, ◌∙◌, is_some, option_map}
 use Rattle.avp_patterns.specs.Matching.{groups_in, match_in, matches, spans_of}
 use Rattle.avp_patterns.specs.Patterns.{Written}
 

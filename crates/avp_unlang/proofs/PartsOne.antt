@@ -7,7 +7,6 @@ use Rattle.avp_forms.specs.declared.profiles.Profile.TheVariants.{Plain, Wider}
 use Rattle.avp_unlang.specs.declared.text.references.Reference.{Reference}
 use Rattle.avp_unlang.specs.declared.tree.Part.{Part}
 use Rattle.avp_unlang.specs.declared.tree.Part.TheVariants.{Capture, Text, Instance, Meant}
-use Rattle.avp_unlang.specs.Forms.{Form}
 use Rattle.avp_unlang.specs.Parts.{ExpansionIs, octet_at, begins_octet, OctetIs, braced, PartIs, PartsAre, group_named, is_left, part_named, part_of}
 use Rattle.avp_unlang.specs.References.{readable}
 use Rattle.avp_unlang.proofs.Determined.{IsOne, some_is}

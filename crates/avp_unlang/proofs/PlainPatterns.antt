@@ -14,8 +14,6 @@ use Rattle.avp_unlang.specs.declared.text.statements.Keyword.TheVariants as keyw
 use Rattle.avp_unlang.specs.declared.text.tokens.Sign.TheVariants as sign
 use Rattle.avp_unlang.specs.declared.text.tokens.Token.{Token}
 use Rattle.avp_unlang.specs.declared.text.tokens.Token.TheVariants as token
-use Rattle.avp_dict.specs.declared.value.quotes.QuoteMark.TheVariants as quote
-use Rattle.avp_unlang.specs.declared.tree.Cond.TheVariants.{Captured}
 use Rattle.avp_unlang.specs.declared.tree.Branch.{Branch}
 use Rattle.avp_unlang.specs.declared.tree.Cond.{Cond}
 use Rattle.avp_unlang.specs.declared.tree.Relation.{Relation}
@@ -24,20 +22,18 @@ use Rattle.avp_unlang.specs.declared.tree.Statement.TheFolds.{fold-roll-Branch}
 use Rattle.avp_unlang.specs.declared.tree.Statement.TheVariants.{If}
 use Rattle.avp_unlang.specs.Between.{Follows}
 use Rattle.avp_unlang.specs.Conditions.{Both, Closed, ComparedFrom, ComparedIs, Either, OperandFrom, RelatedBy, Within, WordFrom, all_of, any_of, comparison_of, is_by_meaning, meant_comparison, present_of, relation_of}
-use Rattle.avp_unlang.specs.Forms.{Form, Chain}
+use Rattle.avp_unlang.specs.Forms.{Form}
 use Rattle.avp_unlang.specs.Places.{Place, start_of}
 use Rattle.avp_unlang.specs.Policies.{SpellsPolicy}
 use Rattle.avp_unlang.specs.PolicyPatterns.{branch_layer_passes, branch_patterns_pass, cond_patterns_pass, none_passes, policy_patterns_pass, statement_layer_passes, statement_patterns_pass}
 use Rattle.avp_unlang.specs.References.{type_of}
 use Rattle.avp_unlang.specs.Selecting.{selection_of}
 use Rattle.avp_unlang.specs.Statements.{BranchIs, Nested, Otherwise, StatementFrom, begins_word, branch_of, keyword_in}
-use Rattle.avp_unlang.specs.Parts.{group_in}
 use Rattle.avp_unlang.specs.Tokens.{next_token}
 use Rattle.avp_unlang.specs.Words.{code_named}
 use Rattle.avp_unlang.proofs.PolicyPasses.{passes_If, passes_Transaction, passes_Update, passes_Word}
-use Rattle.avp_unlang.proofs.SpelledParts.{mapped}
 use Rattle.avp_unlang.proofs.SpelledSuits.{Suits, block_fits, both_true, chain_fits, while_fits}
-use Rattle.avp_unlang.proofs.Truths.{all_passes, passes_all, passes_any, passes_captured, passes_compare, passes_compare_meant, passes_last, passes_not, passes_present, passes_present_selected}
+use Rattle.avp_unlang.proofs.Truths.{all_passes, passes_all, passes_any, passes_compare, passes_compare_meant, passes_last, passes_not, passes_present, passes_present_selected}
 
 -- conditions and statements without patterns
 abbrev cond_passes : Cond → Bool
@@ -103,9 +99,6 @@ module _ (dictionary : Dictionary) where
   operand_passes inner each (token.Operator sign.Open) p c rest h = closed_passes inner each p c rest h
   operand_passes inner each (token.Operator sign.Reference) p c rest h = compared_passes h.0 h.1 c rest h.3
   operand_passes inner each (token.Word word) p c rest h = word_passes (code_named word) word p c rest h
-  operand_passes inner each (token.Quoted quote.Double text) p c rest h =
-      let group = mapped Captured (group_in Plain text) c h.0 in
-      ap cond_passes (sym group.2) ∙ passes_captured none_passes group.0
   operand_passes inner each _ p c rest h = absurd h
 
   within_passes : (n : ℕ) → Suits cond_passes (Within Plain dictionary n)

@@ -1,11 +1,13 @@
 -- What is read takes its size of the room that a policy has, and nothing else takes any.
-use Rattle.std.proofs.Common.{◌≡◌, ℕ, ◌+◌, zero, suc, Bool, true, false, List, [], ◌∷◌, length, map, Option, Some, None, refl, sym, ap, ◌∙◌, arith}
+use Rattle.std.proofs.Common.{◌≡◌, inl, inr, ℕ, ◌+◌, zero, suc, Bool, true, false, List, [], ◌∷◌, length, map, Option, Some, None, refl, sym, ap, ◌∙◌, arith}
 use Rattle.std.proofs.lemmas.Grind.{common_steps}
 use Rattle.avp_lists.specs.declared.lists.List.{List as Name}
 use Rattle.avp_dict.specs.Dictionary.{Dictionary}
+use Rattle.avp_dict.specs.declared.value.quotes.QuoteMark.{QuoteMark}
 use Rattle.avp_dict.specs.declared.value.quotes.QuoteMark.TheVariants.{Double, Single}
 use Rattle.avp_forms.specs.declared.targets.Target.{Target}
 use Rattle.avp_forms.specs.declared.profiles.Profile.{Profile}
+use Rattle.avp_forms.specs.declared.profiles.Profile.TheVariants.{Plain, Wider}
 use Rattle.avp_unlang.specs.declared.codes.Code.{Code}
 use Rattle.avp_unlang.specs.declared.text.statements.Keyword.{Keyword}
 use Rattle.avp_unlang.specs.declared.text.statements.Keyword.TheVariants as keyword
@@ -18,12 +20,15 @@ use Rattle.avp_unlang.specs.declared.text.values.Written.{Written}
 use Rattle.avp_unlang.specs.declared.tree.Branch.{Branch}
 use Rattle.avp_unlang.specs.declared.tree.Cond.{Cond}
 use Rattle.avp_unlang.specs.declared.tree.Line.{Line}
+use Rattle.avp_unlang.specs.declared.tree.Part.{Part}
 use Rattle.avp_unlang.specs.declared.tree.Relation.{Relation}
 use Rattle.avp_unlang.specs.declared.tree.Statement.{Statement}
 use Rattle.avp_unlang.specs.declared.tree.Statement.TheFolds.{fold-roll-Statement, fold-roll-Branch}
 use Rattle.avp_unlang.specs.declared.tree.Statement.TheOpen as layer
 use Rattle.avp_unlang.specs.declared.tree.Statement.TheVariants.{Update, If, Transaction, Word, rolls-Update, rolls-If, rolls-Transaction, rolls-Word}
-use Rattle.avp_unlang.specs.Conditions.{Both, Closed, ComparandOf, ComparedFrom, ComparedIs, Either, MatchedOr, MeantFrom, MeantIs, OperandFrom, RelatedBy, Within, WordFrom, is_by_meaning, matcher_in, relation_of}
+use Rattle.avp_unlang.specs.declared.tree.TextSide.{TextSide}
+use Rattle.avp_unlang.specs.declared.tree.TextSide.TheVariants as side
+use Rattle.avp_unlang.specs.Conditions.{Both, Closed, ComparandOf, ComparedFrom, ComparedIs, Either, MatchedOr, MeantFrom, MeantIs, OperandFrom, RelatedAs, RelatedBy, RightFrom, RightIs, TextBeside, TextComparedFrom, TextOperand, TextRelatedFrom, TextsBy, Within, WordFrom, is_by_meaning, is_text_beside, matcher_in, puts_in, reference_alone, relation_of, side_of}
 use Rattle.avp_unlang.specs.Forms.{Form, Step, Gives, After, Then, While, Others, Chain}
 use Rattle.avp_unlang.specs.Lines.{TargetIs, OpIs, LineIs, after_reference, begins_line}
 use Rattle.avp_unlang.specs.Places.{Place, counted}
@@ -181,10 +186,52 @@ module _ (profile : Profile) (dictionary : Dictionary) where
   related_keeps false found relation p c rest h =
       ap (λ (q : Place). q.room) h.3.1 ∙ made_keeps found.target (ComparandOf profile dictionary found.target) p h.0 h.1 h.2
 
+  -- ---- texts
+
+  right_from_keeps : (t : Token) → Keeps (RightFrom dictionary t)
+  right_from_keeps (token.Word word) p x rest h = ap (λ (q : Place). q.room) h.1
+  right_from_keeps (token.Quoted mark text) p x rest h = ap (λ (q : Place). q.room) h.1
+  right_from_keeps _ p x rest h = absurd h
+
+  right_keeps : Keeps (RightIs dictionary)
+  right_keeps p x rest h = right_from_keeps (next_token p).0 (next_token p).1 x rest h ∙ next_room p
+
+  texts_keep : (left : TextSide) (relation : Relation) → Keeps (TextsBy dictionary left relation)
+  texts_keep left relation p c rest h = ap (λ (q : Place). q.room) h.3.1 ∙ right_keeps p h.0 h.1 h.2
+
+  beside_keeps : (found : Reference) (relation : Relation) (o : Option Reference) → Keeps (TextBeside dictionary found relation o)
+  beside_keeps found relation None p c rest h = texts_keep (side_of dictionary found) relation p c rest h.1
+  beside_keeps found relation (Some other) p c rest (inl h) = ap (λ (q : Place). q.room) h.2 ∙ next_room p
+  beside_keeps found relation (Some other) p c rest (inr h) = texts_keep (side_of dictionary found) relation p c rest h.1.1
+
+  related_as_keeps : (b : Bool) (found : Reference) (relation : Relation) → Keeps (RelatedAs b profile dictionary found relation)
+  related_as_keeps true found relation p c rest h = beside_keeps found relation (reference_alone dictionary (next_token p).0) p c rest h.1
+  related_as_keeps false found relation p c rest h = related_keeps (is_by_meaning profile (type_of dictionary found.target.named.id)) found relation p c rest h
+
+module _ (profile : Profile) (dictionary : Dictionary) where
+  text_related_keeps : (alone : Option Reference) (b : Bool) (parts : List Part) (relation : Relation) → Keeps (TextRelatedFrom dictionary alone b parts relation)
+  text_related_keeps None b parts relation p c rest h = texts_keep profile dictionary (side.Text parts) relation p c rest h
+  text_related_keeps (Some found) true parts relation p c rest h = texts_keep profile dictionary (side.Text parts) relation p c rest h
+  text_related_keeps (Some found) false parts relation p c rest h = related_keeps Wider dictionary (is_by_meaning Wider (type_of dictionary found.target.named.id)) found relation p c rest h
+
+  text_compared_keeps : (mark : QuoteMark) (text : List ℕ) (m : Option Matcher) (o : Option Relation) (p after : Place) → after.room ≡ p.room → (c : Cond) (rest : Place) → TextComparedFrom dictionary mark text m o p after c rest → rest.room ≡ p.room
+  text_compared_keeps mark text (Some m) o p after same c rest h = ap (λ (q : Place). q.room) h.2.1.1 ∙ same
+  text_compared_keeps mark text None (Some relation) p after same c rest h =
+      text_related_keeps (reference_alone dictionary (token.Quoted mark text)) (puts_in (next_token after).0) h.0 relation after c rest h.2.1 ∙ same
+  text_compared_keeps Double text None None p after same c rest h = ap (λ (q : Place). q.room) h.1
+  text_compared_keeps Single text None None p after same c rest h = absurd h
+
+  text_operand_keeps : (q : Profile) (mark : QuoteMark) (text : List ℕ) → Keeps (TextOperand q dictionary mark text)
+  text_operand_keeps Plain mark text p c rest h = absurd h
+  text_operand_keeps Wider mark text p c rest h =
+      text_compared_keeps mark text (matcher_in Wider (next_token p).0) (relation_of (next_token p).0) p (next_token p).1 (next_room p) c rest h
+
+  -- ---- references and operands
+
   compared_from_keeps : (found : Reference) (o : Option Relation) (p after : Place) → after.room ≡ p.room → (c : Cond) (rest : Place) → ComparedFrom profile dictionary found o p after c rest → rest.room ≡ p.room
   compared_from_keeps found None p after same c rest h = ap (λ (q : Place). q.room) h.1
   compared_from_keeps found (Some relation) p after same c rest h =
-      related_keeps (is_by_meaning profile (type_of dictionary found.target.named.id)) found relation after c rest h ∙ same
+      related_as_keeps profile dictionary (is_text_beside profile (next_token after).0) found relation after c rest h ∙ same
 
   matched_or_keeps : (found : Reference) (o : Option Matcher) (p : Place) (next : Token × Place) → next.1.room ≡ p.room → (c : Cond) (rest : Place) → MatchedOr profile dictionary found o p next c rest → rest.room ≡ p.room
   matched_or_keeps found None p next same c rest h = compared_from_keeps found (relation_of next.0) p next.1 same c rest h
@@ -212,9 +259,9 @@ module _ (profile : Profile) (dictionary : Dictionary) where
   operand_keeps : (inner : Form Place Cond) → Keeps inner → (t : Token) → Keeps (OperandFrom profile dictionary inner t)
   operand_keeps inner keeps (token.Operator sign.Not) p c rest h = ap (λ (q : Place). q.room) h.3.1 ∙ keeps p h.0 h.1 h.2
   operand_keeps inner keeps (token.Operator sign.Open) p c rest h = closed_keeps inner keeps p c rest h
-  operand_keeps inner keeps (token.Operator sign.Reference) p c rest h = compared_keeps h.0 h.1 c rest h.3 ∙ readable_keeps p h.0 h.1 h.2
+  operand_keeps inner keeps (token.Operator sign.Reference) p c rest h = compared_keeps h.0 h.1 c rest h.3 ∙ readable_keeps profile dictionary p h.0 h.1 h.2
   operand_keeps inner keeps (token.Word word) p c rest h = word_keeps (code_named word) word p c rest h
-  operand_keeps inner keeps (token.Quoted Double text) p c rest h = ap (λ (q : Place). q.room) h.1
+  operand_keeps inner keeps (token.Quoted mark text) p c rest h = text_operand_keeps profile mark text p c rest h
   operand_keeps inner keeps _ p c rest h = absurd h
 
   within_keeps : (n : ℕ) → Keeps (Within profile dictionary n)

@@ -1,21 +1,23 @@
 -- Each form goes on at a token of the text, and each refusal is at one.
-use Rattle.std.proofs.Common.{inl, inr, ℕ, zero, suc, Bool, true, false, List, Option, Some, None, refl, ◌∙◌}
+use Rattle.std.proofs.Common.{inl, inr, ℕ, zero, suc, Bool, true, false, List, Option, Some, None, refl, sym, subst, ◌∙◌}
 use Rattle.std.specs.Option.{option_and_then, option_map}
 use Rattle.avp_lists.specs.declared.pairs.AttrId.{AttrId}
 use Rattle.avp_dict.specs.Dictionary.{Dictionary}
 use Rattle.avp_dict.specs.Quotes.{single_quoted_octets}
+use Rattle.avp_dict.specs.declared.value.quotes.QuoteMark.{QuoteMark}
 use Rattle.avp_dict.specs.declared.value.quotes.QuoteMark.TheVariants.{Double, Single}
 use Rattle.avp_forms.specs.declared.profiles.Profile.{Profile}
-use Rattle.avp_forms.specs.declared.profiles.Profile.TheVariants.{Wider}
+use Rattle.avp_forms.specs.declared.profiles.Profile.TheVariants.{Plain, Wider}
 use Rattle.avp_forms.specs.declared.targets.Target.{Target}
 use Rattle.avp_unlang.specs.Between.{Follows}
-use Rattle.avp_unlang.specs.Conditions.{Both, Closed, ComparandIs, ComparedFrom, ComparedIs, Either, MatchedOr, MeantFrom, MeantIs, OperandFrom, ReferredIs, RelatedBy, Within, WordFrom, all_of, any_of, comparison_of, is_by_meaning, matcher_in, matching_of, meant_comparison, meant_literal, pattern_of, plain_octets, present_of, relation_of}
+use Rattle.avp_unlang.specs.Conditions.{Both, Closed, ComparandIs, ComparedFrom, ComparedIs, Either, MatchedOr, MeantFrom, MeantIs, OperandFrom, ReferredIs, RelatedAs, RelatedBy, RightFrom, RightIs, TextBeside, TextComparedFrom, TextOperand, TextRelated, TextRelatedFrom, TextsBy, Within, WordFrom, all_of, any_of, comparison_of, is_by_meaning, is_text_beside, matcher_in, matching_of, meant_comparison, meant_literal, pattern_of, plain_octets, plain_parts, present_of, puts_in, reference_alone, relation_of, side_of, text_comparison, text_match}
 use Rattle.avp_unlang.specs.Forms.{Form, Step, After, Chain, Gives}
-use Rattle.avp_unlang.specs.Parts.{group_in}
+use Rattle.avp_unlang.specs.Parts.{PartIs, group_in, is_left}
 use Rattle.avp_unlang.specs.Places.{Place}
 use Rattle.avp_unlang.specs.References.{AlikeIs, ReadableIs, type_of}
-use Rattle.avp_unlang.specs.RefusedConditions.{BothFails, ClosedFails, ComparandFails, ComparedFails, ComparedFailsFrom, EitherFails, MatchedFails, MatchedFailsOr, MeantFailsFrom, OperandFailsFrom, ReferredFails, RelatedFailsBy, WithinFails, WordFailsFrom, comparand_refusal, group_refusal, meant_refusal}
-use Rattle.avp_unlang.specs.RefusedForms.{DeepFails, Failing, Misses, OthersFails, ThenFails, left_at, unfit}
+use Rattle.avp_unlang.specs.RefusedConditions.{BothFails, ClosedFails, ComparandFails, ComparedFails, ComparedFailsFrom, EitherFails, MatchedFails, MatchedFailsOr, MeantFailsFrom, OperandFailsFrom, QuotedPartsFail, ReferredFails, RelatedFailsAs, RelatedFailsBy, RelatedToTextFails, RightFails, RightFailsFrom, TextBesideFails, TextBesideOctetsFails, TextComparedFails, TextMatchedFails, TextOperandFails, TextRelatedFails, TextRelatedFailsFrom, WithinFails, WordFailsFrom, comparand_refusal, meant_refusal}
+use Rattle.avp_unlang.specs.RefusedForms.{DeepFails, Failing, Misses, OthersFails, ThenFails, WhileFails, left_at, unfit}
+use Rattle.avp_unlang.specs.RefusedLines.{PartFails, expansion_refusal}
 use Rattle.avp_unlang.specs.RefusedValues.{AlikeFails, IsValueRefused, ReadableFails, UnlikeFails, WrittenFails, WrittenFailsFrom, literal_refusal, plain_refusal, reference_refusal, value_place, word_refusal}
 use Rattle.avp_unlang.specs.Tokens.{next_token}
 use Rattle.avp_unlang.specs.Values.{WrittenFrom, WrittenIs, literal}
@@ -30,11 +32,14 @@ use Rattle.avp_unlang.specs.declared.text.tokens.Token.{Token}
 use Rattle.avp_unlang.specs.declared.text.tokens.Token.TheVariants.{Operator, Quoted, Word}
 use Rattle.avp_unlang.specs.declared.text.values.Written.TheVariants as written
 use Rattle.avp_unlang.specs.declared.tree.Cond.{Cond}
-use Rattle.avp_unlang.specs.declared.tree.Cond.TheVariants.{Captured, Compare, CompareMeant, Last, Match, Not}
+use Rattle.avp_unlang.specs.declared.tree.Cond.TheVariants.{Captured, Compare, CompareMeant, CompareTexts, Last, Match, Not}
+use Rattle.avp_unlang.specs.declared.tree.Part.{Part}
 use Rattle.avp_unlang.specs.declared.tree.Relation.{Relation}
+use Rattle.avp_unlang.specs.declared.tree.TextSide.{TextSide}
+use Rattle.avp_unlang.specs.declared.tree.TextSide.TheVariants as side
 use Rattle.avp_unlang.specs.internal.LeftTokens.{LeavesToken}
 use Rattle.avp_unlang.proofs.ReachedTokens.{IsKept, IsPlaced, IsReached, IsStepKept, after_kept, at_token, becomes_kept, chain_kept, IsTold, follows_reached, gives_kept, misses_placed, others_placed, then_kept, then_placed, told_at, told_if}
-use Rattle.avp_unlang.proofs.SmallKinds.{AreSmall, comparand_small, fault_small, group_small, literal_small, meant_small, other_type_small, plain_small, reference_small, too_deep_small, unfit_small, word_small}
+use Rattle.avp_unlang.proofs.SmallKinds.{AreSmall, comparand_small, expansion_small, fault_small, literal_small, meant_small, misplaced_small, not_expansion_small, not_writable_small, other_type_small, plain_small, reference_small, too_deep_small, unfit_small, word_small}
 
 module _ (profile : Profile) (text : List ℕ) where
   -- the place after a token
@@ -136,11 +141,70 @@ module _ (profile : Profile) (text : List ℕ) (own : Profile) (dictionary : Dic
       meant_from_placed target name (left_at p) (next_token p).0 (next_token p).1 (next_reached profile text p reached) of_name (at_token profile text p reached)
   related_placed false target name p reached of_name = comparand_placed profile text own dictionary target name p reached of_name
 
+  -- ---- the parts of texts
+
+  pub parts_placed : (value : ℕ) (octets : List ℕ) (left : ℕ) (kind : PolicyKind) → LeavesToken profile value text → WhileFails is_left (PartIs own dictionary) (PartFails own dictionary value) octets left kind → IsTold profile text left kind
+  parts_placed value octets left kind of_value (WhileFails.here starts h) = told_if profile text value (expansion_refusal own dictionary octets) left kind (expansion_small own dictionary octets) of_value h.1
+  parts_placed value octets left kind of_value (WhileFails.later part rest starts read h) = parts_placed value rest left kind of_value h
+
+module _ (profile : Profile) (text : List ℕ) (dictionary : Dictionary) where
+  -- ---- texts
+
+  quoted_placed : (mark : QuoteMark) (octets : List ℕ) (begin left : ℕ) (kind : PolicyKind) → LeavesToken profile begin text → QuotedPartsFail dictionary begin mark octets left kind → IsTold profile text left kind
+  quoted_placed Double octets begin left kind of_begin h = parts_placed profile text Wider dictionary begin octets left kind of_begin h
+  quoted_placed Single octets begin left kind of_begin h = absurd h
+
+  right_from_kept : (token : Token) → IsKept profile text (RightFrom dictionary token)
+  right_from_kept (Word word) p x rest h reached = gives_kept profile text (plain_parts word) p x rest h reached
+  right_from_kept (Quoted mark octets) p x rest h reached = subst (IsReached profile text) (sym h.1) reached
+  right_from_kept _ p x rest h reached = absurd h
+
+  right_kept : IsKept profile text (RightIs dictionary)
+  right_kept p x rest h reached = right_from_kept (next_token p).0 (next_token p).1 x rest h (next_reached profile text p reached)
+
+  right_from_placed : (begin : ℕ) (token : Token) (left : ℕ) (kind : PolicyKind) → LeavesToken profile begin text → RightFailsFrom dictionary begin token left kind → IsTold profile text left kind
+  right_from_placed begin (Word word) left kind of_begin h = absurd h
+  right_from_placed begin (Quoted mark octets) left kind of_begin h = quoted_placed mark octets begin left kind of_begin h
+  right_from_placed begin t left kind of_begin h = told_at profile text begin (unfit t) left kind (unfit_small t) of_begin h
+
+  right_placed : (p : Place) → IsReached profile text p → IsPlaced profile text (RightFails dictionary) p
+  right_placed p reached left kind h = right_from_placed (left_at p) (next_token p).0 left kind (at_token profile text p reached) h
+
+  texts_kept : (left : TextSide) (relation : Relation) → IsKept profile text (TextsBy dictionary left relation)
+  texts_kept left relation =
+      then_kept profile text (RightIs dictionary) (λ right. Gives (CompareTexts (text_comparison left relation right))) right_kept (λ right. gives_kept profile text (CompareTexts (text_comparison left relation right)))
+
+  beside_kept : (found : Reference) (relation : Relation) (o : Option Reference) → IsKept profile text (TextBeside dictionary found relation o)
+  beside_kept found relation None p c rest h reached = texts_kept (side_of dictionary found) relation p c rest h.1 reached
+  beside_kept found relation (Some other) p c rest (inl h) reached = subst (IsReached profile text) (sym h.2) (next_reached profile text p reached)
+  beside_kept found relation (Some other) p c rest (inr h) reached = texts_kept (side_of dictionary found) relation p c rest h.1.1 reached
+
+  octets_placed : (found : Reference) (p : Place) → IsReached profile text p → IsPlaced profile text (TextBesideOctetsFails dictionary found) p
+  octets_placed found p reached left kind (inl h) = right_placed p reached left kind h.1
+  octets_placed found p reached left kind (inr h) = told_at profile text (left_at p) kinds.OtherType left kind other_type_small (at_token profile text p reached) h.1
+
+  beside_placed : (found : Reference) (o : Option Reference) (p : Place) → IsReached profile text p → IsPlaced profile text (TextBesideFails dictionary found o) p
+  beside_placed found None p reached left kind h = octets_placed found p reached left kind h
+  beside_placed found (Some other) p reached left kind h = octets_placed found p reached left kind h.1
+
+  to_text_placed : (found : Reference) (name : ℕ) (p : Place) → IsReached profile text p → LeavesToken profile name text → IsPlaced profile text (RelatedToTextFails dictionary found name) p
+  to_text_placed found name p reached of_name left kind (inl h) = told_at profile text name kinds.NotWritable left kind not_writable_small of_name h.1
+  to_text_placed found name p reached of_name left kind (inr h) = beside_placed found (reference_alone dictionary (next_token p).0) p reached left kind h.1
+
+module _ (profile : Profile) (text : List ℕ) (own : Profile) (dictionary : Dictionary) where
   -- ---- references
+
+  related_as_kept : (b : Bool) (found : Reference) (relation : Relation) → IsKept profile text (RelatedAs b own dictionary found relation)
+  related_as_kept true found relation p c rest h reached = beside_kept profile text dictionary found relation (reference_alone dictionary (next_token p).0) p c rest h.1 reached
+  related_as_kept false found relation p c rest h reached = related_kept profile text own dictionary (is_by_meaning own (type_of dictionary found.target.named.id)) found relation p c rest h reached
+
+  related_as_placed : (b : Bool) (found : Reference) (name : ℕ) (p : Place) → IsReached profile text p → LeavesToken profile name text → IsPlaced profile text (RelatedFailsAs b own dictionary found name) p
+  related_as_placed true found name p reached of_name left kind h = to_text_placed profile text dictionary found name p reached of_name left kind h
+  related_as_placed false found name p reached of_name left kind h = related_placed profile text own dictionary (is_by_meaning own (type_of dictionary found.target.named.id)) found.target name p reached of_name left kind h
 
   compared_from_kept : (found : Reference) (o : Option Relation) (p after : Place) (c : Cond) (rest : Place) → ComparedFrom own dictionary found o p after c rest → IsReached profile text p → IsReached profile text after → IsReached profile text rest
   compared_from_kept found None p after c rest h reached next = gives_kept profile text (present_of dictionary found found.target.tag) p c rest h reached
-  compared_from_kept found (Some relation) p after c rest h reached next = related_kept (is_by_meaning own (type_of dictionary found.target.named.id)) found relation after c rest h next
+  compared_from_kept found (Some relation) p after c rest h reached next = related_as_kept (is_text_beside own (next_token after).0) found relation after c rest h next
 
   matched_or_kept : (found : Reference) (o : Option Matcher) (p : Place) (next : Token × Place) (c : Cond) (rest : Place) → MatchedOr own dictionary found o p next c rest → IsReached profile text p → IsReached profile text next.1 → IsReached profile text rest
   matched_or_kept found None p next c rest h reached after = compared_from_kept found (relation_of next.0) p next.1 c rest h reached after
@@ -152,7 +216,7 @@ module _ (profile : Profile) (text : List ℕ) (own : Profile) (dictionary : Dic
   compared_from_placed : (found : Reference) (name : ℕ) (o : Option Relation) (p : Place) → IsReached profile text p → LeavesToken profile name text → IsPlaced profile text (ComparedFailsFrom own dictionary found name o) p
   compared_from_placed found name None p reached of_name left kind h = absurd h
   compared_from_placed found name (Some relation) p reached of_name left kind h =
-      related_placed (is_by_meaning own (type_of dictionary found.target.named.id)) found.target name p reached of_name left kind h
+      related_as_placed (is_text_beside own (next_token p).0) found name p reached of_name left kind h
 
   matched_placed : (m : Matcher) (at : ℕ) (p : Place) → LeavesToken profile at text → IsPlaced profile text (MatchedFails m at) p
   matched_placed m at p of_at left kind h = ((of_at.0, h.0 ∙ of_at.1), fault_small (pattern_of m) kind h.1)
@@ -183,6 +247,54 @@ module _ (profile : Profile) (text : List ℕ) (own : Profile) (dictionary : Dic
   word_placed None word name p reached of_name left kind (inl h) = told_if profile text name (reference_refusal own dictionary word) left kind (reference_small own dictionary word) of_name h
   word_placed None word name p reached of_name left kind (inr h) = compared_placed h.0 name p reached of_name left kind h.2
 
+  -- ---- texts on the left
+
+  text_related_from_kept : (alone : Option Reference) (b : Bool) (parts : List Part) (relation : Relation) → IsKept profile text (TextRelatedFrom dictionary alone b parts relation)
+  text_related_from_kept None b parts relation p c rest h reached = texts_kept profile text dictionary (side.Text parts) relation p c rest h reached
+  text_related_from_kept (Some found) true parts relation p c rest h reached = texts_kept profile text dictionary (side.Text parts) relation p c rest h reached
+  text_related_from_kept (Some found) false parts relation p c rest h reached = related_kept profile text Wider dictionary (is_by_meaning Wider (type_of dictionary found.target.named.id)) found relation p c rest h reached
+
+  text_related_from_placed : (alone : Option Reference) (b : Bool) (begin : ℕ) (p : Place) → IsReached profile text p → LeavesToken profile begin text → IsPlaced profile text (TextRelatedFailsFrom dictionary alone b begin) p
+  text_related_from_placed None b begin p reached of_begin left kind h = right_placed profile text dictionary p reached left kind h
+  text_related_from_placed (Some found) true begin p reached of_begin left kind h = right_placed profile text dictionary p reached left kind h
+  text_related_from_placed (Some found) false begin p reached of_begin left kind h = related_placed profile text Wider dictionary (is_by_meaning Wider (type_of dictionary found.target.named.id)) found.target begin p reached of_begin left kind h
+
+  text_related_kept : (alone : Option Reference) (parts : List Part) (relation : Relation) → IsKept profile text (TextRelated dictionary alone parts relation)
+  text_related_kept alone parts relation p c rest h reached = text_related_from_kept alone (puts_in (next_token p).0) parts relation p c rest h.1 reached
+
+  text_related_placed : (alone : Option Reference) (begin : ℕ) (p : Place) → IsReached profile text p → LeavesToken profile begin text → IsPlaced profile text (TextRelatedFails dictionary alone begin) p
+  text_related_placed alone begin p reached of_begin left kind (inl h) = told_at profile text (left_at p) (unfit (next_token p).0) left kind (unfit_small (next_token p).0) (at_token profile text p reached) h.1
+  text_related_placed alone begin p reached of_begin left kind (inr h) = text_related_from_placed alone (puts_in (next_token p).0) begin p reached of_begin left kind h.1
+
+  text_matched_placed : (m : Matcher) (at : ℕ) (parts : List Part) (p : Place) → LeavesToken profile at text → IsPlaced profile text (TextMatchedFails m at parts) p
+  text_matched_placed m at parts p of_at left kind (inl h) = told_at profile text at kinds.NotExpansion left kind not_expansion_small of_at h.1
+  text_matched_placed m at parts p of_at left kind (inr h) = ((of_at.0, h.1 ∙ of_at.1), fault_small (pattern_of m) kind h.2)
+
+  text_from_kept : (mark : QuoteMark) (octets : List ℕ) (o : Option Matcher) (r : Option Relation) (p after : Place) (c : Cond) (rest : Place) → TextComparedFrom dictionary mark octets o r p after c rest → IsReached profile text p → IsReached profile text after → IsReached profile text rest
+  text_from_kept mark octets (Some m) r p after c rest h reached next = becomes_kept profile text (text_match m h.0) after c rest h.2.1 next
+  text_from_kept mark octets None (Some relation) p after c rest h reached next = text_related_kept (reference_alone dictionary (Quoted mark octets)) h.0 relation after c rest h.2 next
+  text_from_kept Double octets None None p after c rest h reached next = becomes_kept profile text (option_map Captured (group_in Wider octets)) p c rest h reached
+  text_from_kept Single octets None None p after c rest h reached next = absurd h
+
+  text_from_placed : (mark : QuoteMark) (octets : List ℕ) (begin at : ℕ) (o : Option Matcher) (r : Option Relation) (token : Token) (p : Place) → IsReached profile text p → LeavesToken profile begin text → LeavesToken profile at text
+      → IsPlaced profile text (TextComparedFails dictionary mark octets begin at o r token) p
+  text_from_placed mark octets begin at (Some m) r token p reached of_begin of_at left kind (inl h) = quoted_placed profile text dictionary mark octets begin left kind of_begin h
+  text_from_placed mark octets begin at (Some m) r token p reached of_begin of_at left kind (inr h) = text_matched_placed m at h.0 p of_at left kind h.2
+  text_from_placed mark octets begin at None (Some relation) token p reached of_begin of_at left kind (inl h) = quoted_placed profile text dictionary mark octets begin left kind of_begin h
+  text_from_placed mark octets begin at None (Some relation) token p reached of_begin of_at left kind (inr h) = text_related_placed (reference_alone dictionary (Quoted mark octets)) begin p reached of_begin left kind h.2
+  text_from_placed mark octets begin at None None token p reached of_begin of_at left kind (none, inl h) = quoted_placed profile text dictionary mark octets begin left kind of_begin h
+  text_from_placed mark octets begin at None None token p reached of_begin of_at left kind (none, inr h) = told_at profile text at (unfit token) left kind (unfit_small token) of_at h.2
+
+  text_operand_kept : (q : Profile) (mark : QuoteMark) (octets : List ℕ) → IsKept profile text (TextOperand q dictionary mark octets)
+  text_operand_kept Plain mark octets p c rest h reached = absurd h
+  text_operand_kept Wider mark octets p c rest h reached =
+      text_from_kept mark octets (matcher_in Wider (next_token p).0) (relation_of (next_token p).0) p (next_token p).1 c rest h reached (next_reached profile text p reached)
+
+  text_operand_placed : (q : Profile) (mark : QuoteMark) (octets : List ℕ) (begin : ℕ) (p : Place) → IsReached profile text p → LeavesToken profile begin text → IsPlaced profile text (TextOperandFails q dictionary mark octets begin) p
+  text_operand_placed Plain mark octets begin p reached of_begin left kind h = told_at profile text begin kinds.Misplaced left kind misplaced_small of_begin h
+  text_operand_placed Wider mark octets begin p reached of_begin left kind h =
+      text_from_placed mark octets begin (left_at p) (matcher_in Wider (next_token p).0) (relation_of (next_token p).0) (next_token p).0 (next_token p).1 (next_reached profile text p reached) of_begin (at_token profile text p reached) left kind h
+
   -- ---- operands
 
   both_kept : (form : Form Place Cond) → IsKept profile text form → IsKept profile text (Both form)
@@ -203,7 +315,7 @@ module _ (profile : Profile) (text : List ℕ) (own : Profile) (dictionary : Dic
   operand_kept inner kept (Operator sign.Open) p c rest h reached = closed_kept inner kept p c rest h reached
   operand_kept inner kept (Operator sign.Reference) p c rest h reached = referred_kept p c rest h reached
   operand_kept inner kept (Word word) p c rest h reached = word_kept (code_named word) word p c rest h reached
-  operand_kept inner kept (Quoted Double octets) p c rest h reached = becomes_kept profile text (option_map Captured (group_in own octets)) p c rest h reached
+  operand_kept inner kept (Quoted mark octets) p c rest h reached = text_operand_kept own mark octets p c rest h reached
   operand_kept inner kept _ p c rest h reached = absurd h
 
   pub within_kept : (n : ℕ) → IsKept profile text (Within own dictionary n)
@@ -244,7 +356,7 @@ module _ (profile : Profile) (text : List ℕ) (own : Profile) (dictionary : Dic
   operand_placed n inner fails kept each at (Operator sign.Open) p reached of_at left kind h = closed_placed inner fails kept each n at p reached of_at left kind h
   operand_placed n inner fails kept each at (Operator sign.Reference) p reached of_at left kind h = referred_placed p reached left kind h
   operand_placed n inner fails kept each at (Word word) p reached of_at left kind h = word_placed (code_named word) word at p reached of_at left kind h
-  operand_placed n inner fails kept each at (Quoted Double octets) p reached of_at left kind h = told_if profile text at (group_refusal (group_in own octets)) left kind (group_small (group_in own octets)) of_at h
+  operand_placed n inner fails kept each at (Quoted mark octets) p reached of_at left kind h = text_operand_placed own mark octets at p reached of_at left kind h
   operand_placed n inner fails kept each at t p reached of_at left kind h = told_at profile text at (unfit t) left kind (unfit_small t) of_at h
 
   pub within_placed : (n : ℕ) (p : Place) → IsReached profile text p → IsPlaced profile text (WithinFails own dictionary n) p

@@ -13,12 +13,11 @@ use Rattle.avp_unlang.specs.Between.{Counts, Follows}
 use Rattle.avp_unlang.specs.Conditions.{Closed, Within}
 use Rattle.avp_unlang.specs.Forms.{Form, After, Gives, Then, While}
 use Rattle.avp_unlang.specs.Lines.{LineIs, OpIs, TargetIs, after_reference, after_reference_from, begins_line, line_of}
-use Rattle.avp_unlang.specs.Parts.{PartIs, is_left}
 use Rattle.avp_unlang.specs.Places.{Place, start_of}
 use Rattle.avp_unlang.specs.References.{list_named}
 use Rattle.avp_unlang.specs.RefusedConditions.{ClosedFails, WithinFails}
 use Rattle.avp_unlang.specs.RefusedForms.{DeepFails, Failing, Lacks, Misses, OthersFails, ThenFails, WhileFails, left_at, unfit}
-use Rattle.avp_unlang.specs.RefusedLines.{EditFails, FilledFailsBy, IgnoredFailsFrom, LineFails, OpFails, OwnFails, PartFails, PartedFails, SourceFails, SourceFailsBy, SourceFailsOf, TargetFails, ValueFails, any_word, expansion_refusal, target_refusal, whole_refusal}
+use Rattle.avp_unlang.specs.RefusedLines.{EditFails, FilledFailsBy, IgnoredFailsFrom, LineFails, OpFails, OwnFails, PartedFails, SourceFails, SourceFailsBy, SourceFailsOf, TargetFails, ValueFails, any_word, target_refusal, whole_refusal}
 use Rattle.avp_unlang.specs.RefusedPolicies.{StatementsFail}
 use Rattle.avp_unlang.specs.RefusedStatements.{BlockFails, BranchFails, BranchesFail, IfFails, InsideFails, NestedFails, OpenedFails, OtherwiseFails, StatementFailsFrom, TransactionFails}
 use Rattle.avp_unlang.specs.RefusedValues.{WrittenFails, literal_refusal, word_refusal}
@@ -42,21 +41,17 @@ use Rattle.avp_unlang.specs.declared.tree.Statement.{Statement}
 use Rattle.avp_unlang.specs.declared.tree.Statement.TheVariants as statement
 use Rattle.avp_unlang.specs.internal.LeftTokens.{LeavesToken}
 use Rattle.avp_unlang.proofs.LinesOne.{Ending, Operated, Sourced, Targeted}
-use Rattle.avp_unlang.proofs.ReachedForms.{closed_kept, closed_placed, deep_placed, next_reached, value_placed, within_kept, within_placed, written_kept, written_placed}
+use Rattle.avp_unlang.proofs.ReachedForms.{closed_kept, closed_placed, deep_placed, next_reached, parts_placed, value_placed, within_kept, within_placed, written_kept, written_placed}
 use Rattle.avp_unlang.proofs.ReachedTokens.{IsKept, IsPlaced, IsReached, IsStepKept, IsTold, after_kept, after_placed, at_token, chain_kept, counts_reached, follows_reached, gives_kept, misses_placed, others_placed, then_kept, then_placed, told_at, told_if, while_kept, while_placed}
-use Rattle.avp_unlang.proofs.SmallKinds.{any_word_small, expansion_small, not_writable_small, target_refusal_small, too_large_small, unfit_small, whole_small, word_small}
+use Rattle.avp_unlang.proofs.SmallKinds.{any_word_small, not_writable_small, target_refusal_small, too_large_small, unfit_small, whole_small, word_small}
 
 module _ (profile : Profile) (text : List ℕ) (own : Profile) (dictionary : Dictionary) where
   -- ---- texts between double quotes, all of whose refusals are where they begin
 
-  parts_placed : (value : ℕ) (octets : List ℕ) (left : ℕ) (kind : PolicyKind) → LeavesToken profile value text → WhileFails is_left (PartIs own dictionary) (PartFails own dictionary value) octets left kind → IsTold profile text left kind
-  parts_placed value octets left kind of_value (WhileFails.here starts h) = told_if profile text value (expansion_refusal own dictionary octets) left kind (expansion_small own dictionary octets) of_value h.1
-  parts_placed value octets left kind of_value (WhileFails.later part rest starts read h) = parts_placed value rest left kind of_value h
-
   filled_placed : (b : Bool) (target : Target) (name value : ℕ) (octets : List ℕ) (left : ℕ) (kind : PolicyKind) → LeavesToken profile name text → LeavesToken profile value text
       → FilledFailsBy b own dictionary target name value octets left kind → IsTold profile text left kind
   filled_placed true target name value octets left kind of_name of_value h = told_at profile text name kinds.NotWritable left kind not_writable_small of_name h
-  filled_placed false target name value octets left kind of_name of_value (inl h) = parts_placed value octets left kind of_value h
+  filled_placed false target name value octets left kind of_name of_value (inl h) = parts_placed profile text own dictionary value octets left kind of_value h
   filled_placed false target name value octets left kind of_name of_value (inr h) =
       value_placed profile text (whole_refusal (literal_refusal own dictionary target) (whole_text h.0)) (whole_small own dictionary target (whole_text h.0)) name value left kind h.3 of_name of_value
 

@@ -1,6 +1,6 @@
 -- Update lines are refused at most once, and not where they are read.
 use Rattle.std.proofs.Common.{◌≡◌, inl, inr, ℕ, Bool, true, false, List, Option, Some, None, refl, ap, subst, ◌∙◌}
-use Rattle.std.specs.Option.{option_and_then, option_map}
+use Rattle.std.specs.Option.{option_map}
 use Rattle.avp_lists.specs.declared.edits.Op.{Op}
 use Rattle.avp_lists.specs.declared.lists.List.{List as Name}
 use Rattle.avp_dict.specs.Dictionary.{Dictionary}
@@ -11,12 +11,11 @@ use Rattle.avp_forms.specs.declared.targets.Target.{Target}
 use Rattle.avp_unlang.specs.Between.{Counts}
 use Rattle.avp_unlang.specs.Forms.{Form, While}
 use Rattle.avp_unlang.specs.Lines.{LineIs, OpIs, TargetIs, after_reference, line_of, op_of}
-use Rattle.avp_unlang.specs.Parts.{ExpansionIs, PartIs, begins_octet, braced, group_named, is_left, part_of}
+use Rattle.avp_unlang.specs.Parts.{PartIs, is_left}
 use Rattle.avp_unlang.specs.Places.{Place}
-use Rattle.avp_unlang.specs.References.{readable}
 use Rattle.avp_unlang.specs.RefusedForms.{Lacks, WhileFails, left_at, unfit}
-use Rattle.avp_unlang.specs.RefusedLines.{EditFails, FilledFails, FilledFailsBy, IgnoredFailsFrom, LineFails, OpFails, OwnFails, PartFails, PartedFails, PartsFail, SourceFails, SourceFailsBy, SourceFailsOf, TargetFails, ValueFails, any_word, expansion_refusal, target_refusal, unfit_braces, unfit_group, unknown_target, whole_refusal}
-use Rattle.avp_unlang.specs.RefusedValues.{IsValueRefused, literal_refusal, reference_refusal, word_refusal}
+use Rattle.avp_unlang.specs.RefusedLines.{EditFails, FilledFails, FilledFailsBy, IgnoredFailsFrom, LineFails, OpFails, OwnFails, PartFails, PartedFails, PartsFail, SourceFails, SourceFailsBy, SourceFailsOf, TargetFails, ValueFails, any_word, target_refusal, unknown_target, whole_refusal}
+use Rattle.avp_unlang.specs.RefusedValues.{IsValueRefused, literal_refusal, word_refusal}
 use Rattle.avp_unlang.specs.Selecting.{line_selection}
 use Rattle.avp_unlang.specs.Sources.{FilledIs, IgnoredFrom, SourceBy, SourceIs, SourceOf, ValueIs, filled_source, is_removal, text_source, whole_text}
 use Rattle.avp_unlang.specs.Tokens.{next_token}
@@ -30,44 +29,18 @@ use Rattle.avp_unlang.specs.declared.text.tokens.Token.TheVariants.{Operator, Qu
 use Rattle.avp_unlang.specs.declared.text.values.Written.{Written}
 use Rattle.avp_unlang.specs.declared.text.values.Written.TheVariants as written
 use Rattle.avp_unlang.specs.declared.tree.Part.{Part}
-use Rattle.avp_unlang.specs.declared.tree.Part.TheVariants.{Capture, Text, Instance, Meant}
 use Rattle.avp_unlang.specs.declared.tree.Source.{Source}
 use Rattle.avp_unlang.specs.declared.tree.Source.TheVariants.{Literal}
 use Rattle.avp_unlang.proofs.LinesOne.{Operated, Sourced, Targeted, counts_sure, op_one, target_one}
 use Rattle.avp_unlang.proofs.PartsOne.{part_one}
-use Rattle.avp_unlang.proofs.RefusedOnce.{AreSame, SettlesAt, after_settles, then_settles, while_settles}
+use Rattle.avp_unlang.proofs.RefusedOnce.{AreSame, SettlesAt, after_settles, then_settles}
 use Rattle.avp_unlang.proofs.RefusedOnceConditions.{gives_settles}
-use Rattle.avp_unlang.proofs.RefusedOnceParts.{at_once, counts_settles, if_once, literal_apart, made_settles, mapped, readable_apart, some_none, value_once}
+use Rattle.avp_unlang.proofs.RefusedOnceTexts.{run_settles}
+use Rattle.avp_unlang.proofs.RefusedOnceParts.{at_once, counts_settles, if_once, literal_apart, made_settles, mapped, some_none, value_once}
 use Rattle.avp_unlang.proofs.ValueRuns.{while_one}
-
-both_ways : (b : Bool) → b ≡ true → b ≡ false → ⊥
-both_ways b e f = cc
 
 module _ (profile : Profile) (dictionary : Dictionary) where
   -- ---- texts between double quotes
-
-  group_apart : (word : List ℕ) (o : Option ℕ) (part : Part) (kind : PolicyKind) → elim o [ None ↦ option_map (part_of profile dictionary) (readable profile dictionary word) | Some group ↦ Some (Capture group) ] ≡ Some part
-      → unfit_group (reference_refusal profile dictionary word) o ≡ Some kind → ⊥
-  group_apart word None part kind h f =
-      let found = mapped profile dictionary (part_of profile dictionary) (readable profile dictionary word) part h in readable_apart profile dictionary word found.0 kind found.1 f
-  group_apart word (Some group) part kind h f = some_none kind None f refl
-
-  expansion_apart : (text : List ℕ) (part : Part) (rest : List ℕ) (kind : PolicyKind) → ExpansionIs profile dictionary text part rest → expansion_refusal profile dictionary text ≡ Some kind → ⊥
-  expansion_apart text part rest kind h f =
-      let opened = subst (λ o. unfit_braces profile dictionary (option_and_then braced o) ≡ Some kind) h.1 f in
-      let closed = subst (λ o. unfit_braces profile dictionary o ≡ Some kind) h.3 opened in
-      group_apart h.2 (group_named profile h.2) part kind h.4 closed
-
-  part_settles : (value : ℕ) (text : List ℕ) → SettlesAt (PartIs profile dictionary) (PartFails profile dictionary value) text
-  part_settles value text = record { apart = apart; once = λ left other kind more f g. if_once value (expansion_refusal profile dictionary text) left other kind more f.1 g.1 } where
-    apart : (part : Part) (rest : List ℕ) (left : ℕ) (kind : PolicyKind) → PartIs profile dictionary text part rest → PartFails profile dictionary value text left kind → ⊥
-    apart (Text octets) rest left kind h f = both_ways (begins_octet text) h.0 f.0
-    apart (Instance l i) rest left kind h f = expansion_apart text (Instance l i) rest kind h.1 f.1.1
-    apart (Meant l i k) rest left kind h f = expansion_apart text (Meant l i k) rest kind h.1 f.1.1
-    apart (Capture n) rest left kind h f = expansion_apart text (Capture n) rest kind h.1 f.1.1
-
-  run_settles : (value : ℕ) (text : List ℕ) → SettlesAt (While is_left (PartIs profile dictionary)) (WhileFails is_left (PartIs profile dictionary) (PartFails profile dictionary value)) text
-  run_settles value text = while_settles is_left (PartIs profile dictionary) (PartFails profile dictionary value) (part_one profile dictionary) (part_settles value) text
 
   whole_apart : (target : Target) (parts : List Part) (o : Option (List ℕ)) (source : Source) (kind : PolicyKind)
       → elim o [ Some text ↦ option_map Literal (literal profile dictionary target text) | None ↦ Some (text_source profile target parts) ] ≡ Some source
@@ -84,7 +57,7 @@ module _ (profile : Profile) (dictionary : Dictionary) where
   filled_apart : (target : Target) (name value : ℕ) (text : List ℕ) (source : Source) (left : ℕ) (kind : PolicyKind) → FilledIs profile dictionary target text source → FilledFails profile dictionary target name value text left kind → ⊥
   filled_apart target name value text source left kind h f = of_parts (subst (λ b. FilledFailsBy b profile dictionary target name value text left kind) h.0 f) where
     of_parts : PartsFail profile dictionary target name value text left kind → ⊥
-    of_parts (inl g) = (run_settles value text).apart h.1 h.2.0 left kind h.2.1 g
+    of_parts (inl g) = (run_settles profile dictionary value text).apart h.1 h.2.0 left kind h.2.1 g
     of_parts (inr g) =
         let same = (while_one is_left (PartIs profile dictionary) (part_one profile dictionary) text h.1 g.0 h.2.0 g.1 h.2.1 g.2).0 in
         source_apart target g.0 source kind (subst (λ ps. filled_source profile dictionary target ps ≡ Some source) same h.3) g.3.0
@@ -98,7 +71,7 @@ module _ (profile : Profile) (dictionary : Dictionary) where
   parts_once target name value text =
       (then_settles (While is_left (PartIs profile dictionary)) (WhileFails is_left (PartIs profile dictionary) (PartFails profile dictionary value)) NoSource
       (λ parts end. IsValueRefused (whole_refusal (literal_refusal profile dictionary target) (whole_text parts)) name value) text
-      (while_one is_left (PartIs profile dictionary) (part_one profile dictionary)) (run_settles value text)
+      (while_one is_left (PartIs profile dictionary) (part_one profile dictionary)) (run_settles profile dictionary value text)
       (λ parts end. record { apart = λ source rest left kind h f. h; once = value_once (whole_refusal (literal_refusal profile dictionary target) (whole_text parts)) name value })).once
 
   filled_once : (target : Target) (name value : ℕ) (text : List ℕ) (b : Bool) (left other : ℕ) (kind more : PolicyKind) → FilledFailsBy b profile dictionary target name value text left kind

@@ -5,11 +5,11 @@ use Rattle.avp_dict.specs.Dictionary.{Dictionary}
 use Rattle.avp_forms.specs.declared.profiles.Profile.{Profile}
 use Rattle.avp_forms.specs.declared.targets.Target.{Target}
 use Rattle.avp_unlang.specs.Between.{Follows}
-use Rattle.avp_unlang.specs.Conditions.{is_by_meaning, matcher_in, relation_of}
+use Rattle.avp_unlang.specs.Conditions.{is_by_meaning, is_text_beside, matcher_in, relation_of}
 use Rattle.avp_unlang.specs.Forms.{Form}
 use Rattle.avp_unlang.specs.Places.{Place}
 use Rattle.avp_unlang.specs.References.{type_of}
-use Rattle.avp_unlang.specs.RefusedConditions.{ComparedFails, ComparedFailsFrom, MatchedFails, MatchedFailsOr, RelatedFails, RelatedFailsBy}
+use Rattle.avp_unlang.specs.RefusedConditions.{ComparedFails, ComparedFailsFrom, MatchedFails, MatchedFailsOr, RelatedFails, RelatedFailsAs, RelatedFailsBy, ValueRelatedFails}
 use Rattle.avp_unlang.specs.RefusedForms.{Failing, Tells, left_at, unfit}
 use Rattle.avp_unlang.specs.RefusedStatements.{StatementFails, StatementFailsFrom}
 use Rattle.avp_unlang.specs.Statements.{keyword_in}
@@ -42,8 +42,13 @@ module _ (profile : Profile) (dictionary : Dictionary) {X : Type 0} (r : Result 
   -- ---- conditions
 
   pub related_tells : (target : Target) (name : ℕ) (p : Place) (b : Bool) → b ≡ is_by_meaning profile (type_of dictionary target.named.id) → IfErr r (Tells (RelatedFailsBy b profile dictionary target name p))
-      → IfErr r (Tells (RelatedFails profile dictionary target name p))
+      → IfErr r (Tells (ValueRelatedFails profile dictionary target name p))
   related_tells target name p b by h = subst (λ k. IfErr r (Tells (RelatedFailsBy k profile dictionary target name p))) by h
+
+  -- a text that puts something in, or a value
+  pub related_as_tells : (found : Reference) (name : ℕ) (p : Place) (b : Bool) → b ≡ is_text_beside profile (next_token p).0 → IfErr r (Tells (RelatedFailsAs b profile dictionary found name p))
+      → IfErr r (Tells (RelatedFails profile dictionary found name p))
+  related_as_tells found name p b by h = subst (λ k. IfErr r (Tells (RelatedFailsAs k profile dictionary found name p))) by h
 
   module _ (found : Reference) (name : ℕ) (p : Place) (token : Token) (mid : Place) (follows : Follows token p mid) where
     or_tells : (o : Option Matcher) (at : ℕ) → at ≡ left_at p → matcher_in profile token ≡ o → IfErr r (Tells (MatchedFailsOr profile dictionary found name at o token mid)) → IfErr r (Tells (ComparedFails profile dictionary found name p))
@@ -57,7 +62,7 @@ module _ (profile : Profile) (dictionary : Dictionary) {X : Type 0} (r : Result 
     matched_tells m at place is h = or_tells (Some m) at place is h
 
     -- what follows an operator that compares
-    pub compared_tells : (relation : Relation) (at : ℕ) → at ≡ left_at p → matcher_in profile token ≡ None → relation_of token ≡ Some relation → IfErr r (Tells (RelatedFails profile dictionary found.target name mid))
+    pub compared_tells : (relation : Relation) (at : ℕ) → at ≡ left_at p → matcher_in profile token ≡ None → relation_of token ≡ Some relation → IfErr r (Tells (RelatedFails profile dictionary found name mid))
         → IfErr r (Tells (ComparedFails profile dictionary found name p))
     compared_tells relation at place none related h =
         or_tells None at place none (subst (λ o. IfErr r (Tells (ComparedFailsFrom profile dictionary found name o mid))) (sym related) h)

@@ -22,7 +22,7 @@ use Rattle.avp_patterns.specs.declared.faults.PatternFault.TheVariants as patter
 use Rattle.avp_unlang.specs.Conditions.{has_expansion, meant_literal}
 use Rattle.avp_unlang.specs.Parts.{after_opening, braced, group_named}
 use Rattle.avp_unlang.specs.References.{reference_in}
-use Rattle.avp_unlang.specs.RefusedConditions.{IsPatternFault, comparand_refusal, group_refusal, meant_refusal, own_refusal, unfit_meaning}
+use Rattle.avp_unlang.specs.RefusedConditions.{IsPatternFault, comparand_refusal, meant_refusal, own_refusal, unfit_meaning}
 use Rattle.avp_unlang.specs.RefusedForms.{unfit}
 use Rattle.avp_unlang.specs.RefusedLines.{any_word, expansion_refusal, target_refusal, unfit_braces, unfit_group, unknown_target, whole_refusal}
 use Rattle.avp_unlang.specs.RefusedValues.{expansion_kind, literal_refusal, plain_refusal, reference_refusal, unfit_value, unreadable_target, value_kind, word_refusal}
@@ -63,6 +63,9 @@ not_value_small e = cc
 pub other_type_small : IsSmall kinds.OtherType
 other_type_small e = cc
 
+pub not_expansion_small : IsSmall kinds.NotExpansion
+not_expansion_small e = cc
+
 pub too_deep_small : IsSmall kinds.TooDeep
 too_deep_small e = cc
 
@@ -75,7 +78,7 @@ too_long_small e = cc
 memory_small : IsSmall kinds.Memory
 memory_small e = cc
 
-misplaced_small : IsSmall kinds.Misplaced
+pub misplaced_small : IsSmall kinds.Misplaced
 misplaced_small e = cc
 
 unreadable_small : IsSmall kinds.Unreadable
@@ -171,10 +174,6 @@ meant_small dictionary target text =
 
 pub any_word_small : (word : List ℕ) → AreSmall (any_word word)
 any_word_small word = none_small
-
-pub group_small : (o : Option ℕ) → AreSmall (group_refusal o)
-group_small None = some_small kinds.Misplaced misplaced_small
-group_small (Some group) = none_small
 
 pub fault_small : (w : Pattern) (kind : PolicyKind) → IsPatternFault w kind → IsSmall kind
 fault_small w (kinds.Pattern fault) h = λ large. h.0 (fault_is fault pattern.TooLarge large) where

@@ -1,5 +1,5 @@
 -- A policy that was read suits the dictionary, if names stand for known ids.
-use Rattle.std.proofs.Common.{◌≡◌, ℕ, zero, suc, Bool, true, false, not, if◌then◌else◌, ◌&&◌, List, [], ◌∷◌, map, Option, Some, None, refl, sym, ap, ap₂, subst, ◌∙◌}
+use Rattle.std.proofs.Common.{◌≡◌, inl, inr, ℕ, zero, suc, Bool, true, false, not, if◌then◌else◌, ◌&&◌, List, [], ◌∷◌, map, Option, Some, None, refl, sym, ap, ap₂, subst, ◌∙◌}
 use Rattle.std.proofs.lemmas.Bool.{and_parts}
 use Rattle.std.specs.Option.{option_and_then, option_map}
 use Rattle.std.specs.Prelude.{IfSome, codes}
@@ -22,6 +22,8 @@ use Rattle.avp_unlang.specs.declared.text.tokens.Matcher.{Matcher}
 use Rattle.avp_unlang.specs.declared.text.tokens.Sign.TheVariants as sign
 use Rattle.avp_unlang.specs.declared.text.tokens.Token.{Token}
 use Rattle.avp_unlang.specs.declared.text.tokens.Token.TheVariants as token
+use Rattle.avp_dict.specs.Quotes.{single_quoted_octets}
+use Rattle.avp_dict.specs.declared.value.quotes.QuoteMark.{QuoteMark}
 use Rattle.avp_dict.specs.declared.value.quotes.QuoteMark.TheVariants as quote
 use Rattle.avp_unlang.specs.declared.text.values.Written.{Written}
 use Rattle.avp_unlang.specs.declared.text.values.Written.TheVariants as written
@@ -32,20 +34,25 @@ use Rattle.avp_unlang.specs.declared.tree.Comparison.{Comparison}
 use Rattle.avp_unlang.specs.declared.tree.Cond.{Cond}
 use Rattle.avp_unlang.specs.declared.tree.Cond.TheFolds.{fold-roll-Cond}
 use Rattle.avp_unlang.specs.declared.tree.Cond.TheOpen as open_cond
-use Rattle.avp_unlang.specs.declared.tree.Cond.TheVariants.{Any, All, Not, Last, Present, PresentSelected, Compare, CompareMeant, Match, Captured, rolls-Any, rolls-All, rolls-Not, rolls-Last, rolls-Present, rolls-PresentSelected, rolls-Compare, rolls-CompareMeant, rolls-Match, rolls-Captured}
+use Rattle.avp_unlang.specs.declared.tree.Cond.TheVariants.{Any, All, Not, Last, Present, PresentSelected, Compare, CompareMeant, CompareTexts, Match, MatchText, MatchGroup, Captured, rolls-Any, rolls-All, rolls-Not, rolls-Last, rolls-Present, rolls-PresentSelected, rolls-Compare, rolls-CompareMeant, rolls-CompareTexts, rolls-Match, rolls-MatchText, rolls-MatchGroup, rolls-Captured}
 use Rattle.avp_unlang.specs.declared.tree.Line.{Line}
+use Rattle.avp_unlang.specs.declared.tree.GroupMatching.{GroupMatching}
 use Rattle.avp_unlang.specs.declared.tree.Matching.{Matching}
 use Rattle.avp_unlang.specs.declared.tree.MeantComparison.{MeantComparison}
 use Rattle.avp_unlang.specs.declared.tree.Part.{Part}
+use Rattle.avp_unlang.specs.declared.tree.Part.TheVariants as part
 use Rattle.avp_unlang.specs.declared.tree.Relation.{Relation}
+use Rattle.avp_unlang.specs.declared.tree.TextComparison.{TextComparison}
+use Rattle.avp_unlang.specs.declared.tree.TextSide.{TextSide}
+use Rattle.avp_unlang.specs.declared.tree.TextSide.TheVariants as side
 use Rattle.avp_unlang.specs.declared.tree.Statement.{Statement}
 use Rattle.avp_unlang.specs.declared.tree.Statement.TheFolds.{fold-roll-Statement, fold-roll-Branch, fold_out-Branch}
 use Rattle.avp_unlang.specs.declared.tree.Statement.TheOpen as layer
 use Rattle.avp_unlang.specs.declared.tree.Statement.TheVariants.{Update, If, Transaction, Word, rolls-Update, rolls-If, rolls-Transaction, rolls-Word}
-use Rattle.avp_unlang.specs.Conditions.{relation_of, plain_octets, ComparandIs, ComparandOf, comparison_of, ComparedFrom, ComparedIs, MatchedOr, RelatedBy, WordFrom, is_by_meaning, matcher_in, matching_of, meant_comparison, present_of, any_of, all_of, Both, Either, Closed, OperandFrom, Within}
+use Rattle.avp_unlang.specs.Conditions.{TextBesideOctets, is_beside_texts, relation_of, plain_octets, ComparandIs, ComparandOf, comparison_of, ComparedFrom, ComparedIs, MatchedOr, QuotedParts, RelatedAs, RelatedBy, RightFrom, RightIs, TextBeside, TextComparedFrom, TextOperand, TextRelated, TextRelatedFrom, TextsBy, WordFrom, group_matching, instance_compared, instance_related, is_by_meaning, is_text_beside, plain_parts, puts_in, reference_alone, side_of, text_comparison, text_match, text_matching, matcher_in, matching_of, meant_comparison, present_of, any_of, all_of, Both, Either, Closed, OperandFrom, Within}
 use Rattle.avp_unlang.specs.References.{readable, reference_in, reference_to, target_in, type_of, unless_container}
 use Rattle.avp_unlang.specs.Resolutions.{line_suits, literal_fits}
-use Rattle.avp_unlang.specs.Suiting.{branch_layer_suits, branches_suit, else_suits, branch_suits, comparand_suits, comparison_suits, cond_layer_suits, cond_suits, itself, policy_suits, same_kind, statement_layer_suits, statement_suits}
+use Rattle.avp_unlang.specs.Suiting.{branch_layer_suits, branches_suit, else_suits, branch_suits, comparand_suits, comparison_suits, cond_layer_suits, cond_suits, itself, part_suits, policy_suits, same_kind, side_suits, statement_layer_suits, statement_suits}
 use Rattle.avp_dict.specs.Limits.{is_known}
 use Rattle.avp_dict.specs.Sent.{is_container}
 use Rattle.avp_dict.specs.declared.entries.Kind.{Kind}
@@ -59,7 +66,7 @@ use Rattle.avp_unlang.specs.Selecting.{line_selection, selection_of}
 use Rattle.avp_unlang.specs.Sources.{SourceBy, instance_source, is_removal, text_source}
 use Rattle.avp_unlang.specs.Statements.{BlockIs, branch_of, BranchIs, Otherwise, StatementFrom, Nested, keyword_in, list_at, begins_word}
 use Rattle.avp_unlang.specs.Between.{Follows}
-use Rattle.avp_unlang.specs.Parts.{group_in}
+use Rattle.avp_unlang.specs.Parts.{PartIs, group_in, group_named, is_left, part_of}
 use Rattle.avp_unlang.specs.Tokens.{next_token}
 use Rattle.avp_unlang.specs.Values.{literal}
 use Rattle.avp_unlang.specs.Words.{code_named}
@@ -202,6 +209,18 @@ module _ (profile : Profile) (dictionary : Dictionary) (sound : IsSound dictiona
   unfolding cond_suits
   fits_Match x = ap (cond_suits dictionary) (sym (rolls-Match x)) ∙ fold-roll-Cond Bool (cond_layer_suits dictionary) (open_cond.Match x)
 
+  fits_CompareTexts : (x : TextComparison) → cond_suits dictionary (CompareTexts x) ≡ (side_suits dictionary x.left && list_all part_suits x.right)
+  unfolding cond_suits
+  fits_CompareTexts x = ap (cond_suits dictionary) (sym (rolls-CompareTexts x)) ∙ fold-roll-Cond Bool (cond_layer_suits dictionary) (open_cond.CompareTexts x)
+
+  fits_MatchText : (x : Matching) → cond_suits dictionary (MatchText x) ≡ not (is_container x.id)
+  unfolding cond_suits
+  fits_MatchText x = ap (cond_suits dictionary) (sym (rolls-MatchText x)) ∙ fold-roll-Cond Bool (cond_layer_suits dictionary) (open_cond.MatchText x)
+
+  fits_MatchGroup : (x : GroupMatching) → cond_suits dictionary (MatchGroup x) ≡ true
+  unfolding cond_suits
+  fits_MatchGroup x = ap (cond_suits dictionary) (sym (rolls-MatchGroup x)) ∙ fold-roll-Cond Bool (cond_layer_suits dictionary) (open_cond.MatchGroup x)
+
   fits_Captured : (group : ℕ) → cond_suits dictionary (Captured group) ≡ true
   unfolding cond_suits
   fits_Captured group = ap (cond_suits dictionary) (sym (rolls-Captured group)) ∙ fold-roll-Cond Bool (cond_layer_suits dictionary) (open_cond.Captured group)
@@ -224,43 +243,38 @@ module _ (profile : Profile) (dictionary : Dictionary) (sound : IsSound dictiona
   all_fits (c ∷ []) h = (and_parts (cond_suits dictionary c) true h).0
   all_fits (c ∷ d ∷ cs) h = fits_All (c ∷ d ∷ cs) ∙ h
 
-  module _ (found : Reference) (relation : Relation) (y : Comparand) where
+  module _ (q : Profile) (found : Reference) (relation : Relation) (y : Comparand) where
     abbrev against : Comparand → Bool
     against x = comparand_suits dictionary (comparison_of dictionary found relation y) x
 
-    literal_suits : (text : List ℕ) (x : Comparand) → option_map comparand.Literal (literal profile dictionary found.target text) ≡ Some x → against x ≡ true
+    literal_suits : (text : List ℕ) (x : Comparand) → option_map comparand.Literal (literal q dictionary found.target text) ≡ Some x → against x ≡ true
     literal_suits text x e =
-        let m = mapped comparand.Literal (literal profile dictionary found.target text) x e in
-        subst (λ (z : Comparand). against z ≡ true) m.2 (literal_is profile dictionary found.target text m.0 m.1).1
+        let m = mapped comparand.Literal (literal q dictionary found.target text) x e in
+        subst (λ (z : Comparand). against z ≡ true) m.2 (literal_is q dictionary found.target text m.0 m.1).1
 
-    plain_suits : (o : Option (List ℕ)) (x : Comparand) → option_map comparand.Literal (option_and_then (literal profile dictionary found.target) o) ≡ Some x → against x ≡ true
+    plain_suits : (o : Option (List ℕ)) (x : Comparand) → option_map comparand.Literal (option_and_then (literal q dictionary found.target) o) ≡ Some x → against x ≡ true
     plain_suits None x e = absurd cc
     plain_suits (Some text) x e = literal_suits text x e
 
-    comparand_of_suits : (w : Written) → IsWritten profile dictionary found.target w → (x : Comparand) → ComparandOf profile dictionary found.target w x → against x ≡ true
-    comparand_of_suits (written.Literal value) is x h = subst (λ (z : Comparand). against z ≡ true) (sym h) (literal_is profile dictionary found.target is.0 value is.1).1
+    comparand_of_suits : (w : Written) → IsWritten q dictionary found.target w → (x : Comparand) → ComparandOf q dictionary found.target w x → against x ≡ true
+    comparand_of_suits (written.Literal value) is x h = subst (λ (z : Comparand). against z ≡ true) (sym h) (literal_is q dictionary found.target is.0 value is.1).1
     comparand_of_suits (written.Double text) is x h = plain_suits (plain_octets text) x h
     comparand_of_suits (written.Instance other) is x h =
         ap (λ (z : Comparand). against z) h ∙ ap (same_kind (type_of dictionary found.target.named.id)) (sym is) ∙ same_kind_self (type_of dictionary found.target.named.id)
 
-    comparand_fits : Suits (λ x. against x) (ComparandIs profile dictionary found.target)
-    comparand_fits p x rest h = comparand_of_suits h.0 (written_holds profile dictionary found.target p h.0 rest h.1) x h.2
+    comparand_fits : Suits (λ x. against x) (ComparandIs q dictionary found.target)
+    comparand_fits p x rest h = comparand_of_suits h.0 (written_holds q dictionary found.target p h.0 rest h.1) x h.2
 
-  related_fits : (b : Bool) (found : Reference) (relation : Relation) → Suits (cond_suits dictionary) (RelatedBy b profile dictionary found relation)
-  related_fits true found relation p c rest h = ap (cond_suits dictionary) h.3.0 ∙ fits_CompareMeant (meant_comparison dictionary found relation h.0)
-  related_fits false found relation p c rest h =
+  related_fits : (q : Profile) (b : Bool) (found : Reference) (relation : Relation) → Suits (cond_suits dictionary) (RelatedBy b q dictionary found relation)
+  related_fits q true found relation p c rest h = ap (cond_suits dictionary) h.3.0 ∙ fits_CompareMeant (meant_comparison dictionary found relation h.0)
+  related_fits q false found relation p c rest h =
       ap (cond_suits dictionary) h.3.0 ∙ fits_Compare (comparison_of dictionary found relation h.0)
       ∙ both_true (same_kind (type_of dictionary found.target.named.id) (type_of dictionary found.target.named.id)) (comparand_suits dictionary (comparison_of dictionary found relation h.0) h.0) (same_kind_self (type_of dictionary found.target.named.id))
-      (comparand_fits found relation h.0 p h.0 h.1 h.2)
+      (comparand_fits q found relation h.0 p h.0 h.1 h.2)
 
   present_fits : (found : Reference) (tag : Option ℕ) → cond_suits dictionary (present_of dictionary found tag) ≡ true
   present_fits found None = fits_Present found.list found.target.named.id
   present_fits found (Some tag) = fits_PresentSelected found.list found.target.named.id (selection_of dictionary found.target)
-
-  compared_from_fits : (found : Reference) (o : Option Relation) (p : Place) → Suits (cond_suits dictionary) (ComparedFrom profile dictionary found o p)
-  compared_from_fits found None p after c rest h = ap (cond_suits dictionary) h.0 ∙ present_fits found found.target.tag
-  compared_from_fits found (Some relation) p after c rest h =
-      related_fits (is_by_meaning profile (type_of dictionary found.target.named.id)) found relation after c rest h
 
   -- a word that refers to values names no container
   unless_holds : (r : Reference) (b : Bool) → is_container r.target.named.id ≡ b → (found : Reference) → (if b then None else Some r) ≡ Some found → is_container found.target.named.id ≡ false
@@ -271,12 +285,84 @@ module _ (profile : Profile) (dictionary : Dictionary) (sound : IsSound dictiona
   no_container None found e = absurd cc
   no_container (Some r) found e = unless_holds r (is_container r.target.named.id) refl found e
 
-  readable_values : (word : List ℕ) (found : Reference) → readable profile dictionary word ≡ Some found → is_container found.target.named.id ≡ false
+  readable_values : (q : Profile) (word : List ℕ) (found : Reference) → readable q dictionary word ≡ Some found → is_container found.target.named.id ≡ false
   unfolding readable
-  readable_values word found e = no_container (reference_in profile dictionary lists.Request word) found e
+  readable_values q word found e = no_container (reference_in q dictionary lists.Request word) found e
+
+  -- ---- texts
+
+  part_named_suits : (word : List ℕ) (o : Option ℕ) (x : Part) → elim o [ None ↦ option_map (part_of Wider dictionary) (readable Wider dictionary word) | Some group ↦ Some (part.Capture group) ] ≡ Some x → part_suits x ≡ true
+  part_named_suits word None x h =
+      let found = mapped (part_of Wider dictionary) (readable Wider dictionary word) x h in
+      ap part_suits (sym found.2) ∙ ap not (readable_values Wider word found.0 found.1)
+  part_named_suits word (Some group) x h = ap part_suits (sym (some_is (part.Capture group) x h))
+
+  part_is_suits : (text : List ℕ) (x : Part) (rest : List ℕ) → PartIs Wider dictionary text x rest → part_suits x ≡ true
+  part_is_suits text (part.Text os) rest h = refl
+  part_is_suits text (part.Instance list id) rest h = part_named_suits h.1.2 (group_named Wider h.1.2) (part.Instance list id) h.1.4
+  part_is_suits text (part.Meant list id selection) rest h = part_named_suits h.1.2 (group_named Wider h.1.2) (part.Meant list id selection) h.1.4
+  part_is_suits text (part.Capture group) rest h = refl
+
+  parts_suit : (text : List ℕ) (parts : List Part) (rest : List ℕ) → While is_left (PartIs Wider dictionary) text parts rest → list_all part_suits parts ≡ true
+  parts_suit text [] rest h = refl
+  parts_suit text (x ∷ parts) rest h = both_true (part_suits x) (list_all part_suits parts) (part_is_suits text x h.1 h.2) (parts_suit h.1 parts rest h.3)
+
+  plain_parts_suit : (os : List ℕ) → list_all part_suits (plain_parts os) ≡ true
+  plain_parts_suit [] = refl
+  plain_parts_suit (c ∷ cs) = refl
+
+  quoted_suits : (mark : QuoteMark) (octets : List ℕ) (parts : List Part) → QuotedParts dictionary mark octets parts → list_all part_suits parts ≡ true
+  quoted_suits quote.Double octets parts h = parts_suit octets parts h.0 h.1
+  quoted_suits quote.Single octets parts h = ap (list_all part_suits) h ∙ plain_parts_suit (single_quoted_octets octets)
+
+  right_from_suits : (t : Token) → Suits (list_all part_suits) (RightFrom dictionary t)
+  right_from_suits (token.Word word) p parts rest h = ap (list_all part_suits) h.0 ∙ plain_parts_suit word
+  right_from_suits (token.Quoted mark octets) p parts rest h = quoted_suits mark octets parts h.0
+  right_from_suits _ p parts rest h = absurd h
+
+  right_suits : Suits (list_all part_suits) (RightIs dictionary)
+  right_suits p parts rest h = right_from_suits (next_token p).0 (next_token p).1 parts rest h
+
+  texts_fit : (left : TextSide) → side_suits dictionary left ≡ true → (relation : Relation) → Suits (cond_suits dictionary) (TextsBy dictionary left relation)
+  texts_fit left suits relation p c rest h =
+      ap (cond_suits dictionary) h.3.0 ∙ fits_CompareTexts (text_comparison left relation h.0)
+      ∙ both_true (side_suits dictionary left) (list_all part_suits h.0) suits (right_suits p h.0 h.1 h.2)
+
+  compared_instance_fits : (found : Reference) (relation : Relation) (other : Reference) → type_of dictionary found.target.named.id ≡ type_of dictionary other.target.named.id
+      → cond_suits dictionary (Compare (comparison_of dictionary found relation (comparand.Instance other.list other.target.named.id))) ≡ true
+  compared_instance_fits found relation other same =
+      let kind = type_of dictionary found.target.named.id in
+      let y = comparand.Instance other.list other.target.named.id in
+      fits_Compare (comparison_of dictionary found relation y)
+      ∙ both_true (same_kind kind kind) (comparand_suits dictionary (comparison_of dictionary found relation y) y) (same_kind_self kind) (ap (same_kind kind) (sym same) ∙ same_kind_self kind)
+
+  instance_related_fits : (b : Bool) (found : Reference) (relation : Relation) (other : Reference) → type_of dictionary found.target.named.id ≡ type_of dictionary other.target.named.id → cond_suits dictionary (instance_related b dictionary found relation other) ≡ true
+  instance_related_fits true found relation other same = fits_CompareMeant (meant_comparison dictionary found relation (instance_compared dictionary other))
+  instance_related_fits false found relation other same = compared_instance_fits found relation other same
+
+  octets_fit : (found : Reference) → is_container found.target.named.id ≡ false → (relation : Relation) → Suits (cond_suits dictionary) (TextBesideOctets dictionary found relation)
+  octets_fit found values relation p c rest h =
+      texts_fit (side_of dictionary found) (both_true (not (is_container found.target.named.id)) (is_beside_texts dictionary found.target.named.id) (ap not values) h.0) relation p c rest h.1
+
+  beside_fits : (found : Reference) → is_container found.target.named.id ≡ false → (relation : Relation) (o : Option Reference) → Suits (cond_suits dictionary) (TextBeside dictionary found relation o)
+  beside_fits found values relation None p c rest h = octets_fit found values relation p c rest h
+  beside_fits found values relation (Some other) p c rest (inl h) =
+      ap (cond_suits dictionary) h.1 ∙ instance_related_fits (is_by_meaning Wider (type_of dictionary found.target.named.id)) found relation other (ap (λ k. k.0) h.0)
+  beside_fits found values relation (Some other) p c rest (inr h) = octets_fit found values relation p c rest h.1
+
+  related_as_fits : (b : Bool) (found : Reference) → is_container found.target.named.id ≡ false → (relation : Relation) → Suits (cond_suits dictionary) (RelatedAs b profile dictionary found relation)
+  related_as_fits true found values relation p c rest h = beside_fits found values relation (reference_alone dictionary (next_token p).0) p c rest h.1
+  related_as_fits false found values relation p c rest h = related_fits profile (is_by_meaning profile (type_of dictionary found.target.named.id)) found relation p c rest h
+
+  -- ---- references
+
+  compared_from_fits : (found : Reference) → is_container found.target.named.id ≡ false → (o : Option Relation) (p : Place) → Suits (cond_suits dictionary) (ComparedFrom profile dictionary found o p)
+  compared_from_fits found values None p after c rest h = ap (cond_suits dictionary) h.0 ∙ present_fits found found.target.tag
+  compared_from_fits found values (Some relation) p after c rest h =
+      related_as_fits (is_text_beside profile (next_token after).0) found values relation after c rest h
 
   matched_or_fits : (found : Reference) → is_container found.target.named.id ≡ false → (o : Option Matcher) (p : Place) (next : Token × Place) (c : Cond) (rest : Place) → MatchedOr profile dictionary found o p next c rest → cond_suits dictionary c ≡ true
-  matched_or_fits found values None p next c rest h = compared_from_fits found (relation_of next.0) p next.1 c rest h
+  matched_or_fits found values None p next c rest h = compared_from_fits found values (relation_of next.0) p next.1 c rest h
   matched_or_fits found values (Some m) p next c rest h = ap (cond_suits dictionary) h.1.0 ∙ fits_Match (matching_of dictionary found m) ∙ ap not values
 
   compared_fits : (found : Reference) → is_container found.target.named.id ≡ false → Suits (cond_suits dictionary) (ComparedIs profile dictionary found)
@@ -284,7 +370,40 @@ module _ (profile : Profile) (dictionary : Dictionary) (sound : IsSound dictiona
 
   word_fits : (o : Option Code) (word : List ℕ) → Suits (cond_suits dictionary) (WordFrom profile dictionary o word)
   word_fits (Some code) word p c rest h = ap (cond_suits dictionary) h.0 ∙ fits_Last code
-  word_fits None word p c rest h = compared_fits h.0 (readable_values word h.0 h.1) p c rest h.2
+  word_fits None word p c rest h = compared_fits h.0 (readable_values profile word h.0 h.1) p c rest h.2
+
+  -- ---- texts on the left
+
+  text_related_from_fits : (alone : Option Reference) (b : Bool) (parts : List Part) → list_all part_suits parts ≡ true → (relation : Relation) → Suits (cond_suits dictionary) (TextRelatedFrom dictionary alone b parts relation)
+  text_related_from_fits None b parts suits relation p c rest h = texts_fit (side.Text parts) suits relation p c rest h
+  text_related_from_fits (Some found) true parts suits relation p c rest h = texts_fit (side.Text parts) suits relation p c rest h
+  text_related_from_fits (Some found) false parts suits relation p c rest h = related_fits Wider (is_by_meaning Wider (type_of dictionary found.target.named.id)) found relation p c rest h
+
+  text_related_fits : (alone : Option Reference) (parts : List Part) → list_all part_suits parts ≡ true → (relation : Relation) → Suits (cond_suits dictionary) (TextRelated dictionary alone parts relation)
+  text_related_fits alone parts suits relation p c rest h = text_related_from_fits alone (puts_in (next_token p).0) parts suits relation p c rest h.1
+
+  text_match_fits : (m : Matcher) (parts : List Part) → list_all part_suits parts ≡ true → (c : Cond) → text_match m parts ≡ Some c → cond_suits dictionary c ≡ true
+  text_match_fits m (part.Meant list id selection ∷ []) suits c h =
+      ap (cond_suits dictionary) (sym (some_is (MatchText (text_matching m list id selection)) c h)) ∙ fits_MatchText (text_matching m list id selection) ∙ (and_parts (not (is_container id)) true suits).0
+  text_match_fits m (part.Capture group ∷ []) suits c h =
+      ap (cond_suits dictionary) (sym (some_is (MatchGroup (group_matching m group)) c h)) ∙ fits_MatchGroup (group_matching m group)
+  text_match_fits m _ suits c h = absurd cc
+
+  text_from_fits : (mark : QuoteMark) (octets : List ℕ) (o : Option Matcher) (r : Option Relation) (p : Place) → Suits (cond_suits dictionary) (TextComparedFrom dictionary mark octets o r p)
+  text_from_fits mark octets (Some m) r p after c rest h = text_match_fits m h.0 (quoted_suits mark octets h.0 h.1) c h.2.1.0
+  text_from_fits mark octets None (Some relation) p after c rest h =
+      text_related_fits (reference_alone dictionary (token.Quoted mark octets)) h.0 (quoted_suits mark octets h.0 h.1) relation after c rest h.2
+  text_from_fits quote.Double octets None None p after c rest h =
+      let group = mapped Captured (group_in Wider octets) c h.0 in
+      ap (cond_suits dictionary) (sym group.2) ∙ fits_Captured group.0
+  text_from_fits quote.Single octets None None p after c rest h = absurd h
+
+  text_operand_fits : (q : Profile) (mark : QuoteMark) (octets : List ℕ) → Suits (cond_suits dictionary) (TextOperand q dictionary mark octets)
+  text_operand_fits Plain mark octets p c rest h = absurd h
+  text_operand_fits Wider mark octets p c rest h =
+      text_from_fits mark octets (matcher_in Wider (next_token p).0) (relation_of (next_token p).0) p (next_token p).1 c rest h
+
+  -- ---- operands
 
   both_fit : (form : Form Place Cond) → Suits (cond_suits dictionary) form → Suits (cond_suits dictionary) (Both form)
   both_fit form each p c rest h =
@@ -300,11 +419,9 @@ module _ (profile : Profile) (dictionary : Dictionary) (sound : IsSound dictiona
   operand_fits : (inner : Form Place Cond) → Suits (cond_suits dictionary) inner → (t : Token) → Suits (cond_suits dictionary) (OperandFrom profile dictionary inner t)
   operand_fits inner each (token.Operator sign.Not) p c rest h = ap (cond_suits dictionary) h.3.0 ∙ fits_Not h.0 ∙ each p h.0 h.1 h.2
   operand_fits inner each (token.Operator sign.Open) p c rest h = closed_fits inner each p c rest h
-  operand_fits inner each (token.Operator sign.Reference) p c rest h = compared_fits h.0 (readable_values h.2.0 h.0 h.2.2) h.1 c rest h.3
+  operand_fits inner each (token.Operator sign.Reference) p c rest h = compared_fits h.0 (readable_values profile h.2.0 h.0 h.2.2) h.1 c rest h.3
   operand_fits inner each (token.Word word) p c rest h = word_fits (code_named word) word p c rest h
-  operand_fits inner each (token.Quoted quote.Double text) p c rest h =
-      let group = mapped Captured (group_in profile text) c h.0 in
-      ap (cond_suits dictionary) (sym group.2) ∙ fits_Captured group.0
+  operand_fits inner each (token.Quoted mark text) p c rest h = text_operand_fits profile mark text p c rest h
   operand_fits inner each _ p c rest h = absurd h
 
   within_fits : (n : ℕ) → Suits (cond_suits dictionary) (Within profile dictionary n)

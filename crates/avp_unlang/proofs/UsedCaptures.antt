@@ -5,18 +5,20 @@ use Rattle.avp_lists.specs.declared.tags.Selection.{Selection}
 use Rattle.avp_lists.specs.declared.pairs.AttrId.{AttrId}
 use Rattle.avp_lists.specs.declared.lists.List.{List as Name}
 use Rattle.avp_unlang.specs.CaptureUse.{branch_layer_captures, branch_uses_captures, branches_use_captures, else_uses_captures, line_uses_captures, statement_layer_captures, statement_uses_captures, uses_captures}
-use Rattle.avp_unlang.specs.Evaluations.{cond_layer_captures, cond_uses_captures, itself}
+use Rattle.avp_unlang.specs.Evaluations.{cond_layer_captures, cond_uses_captures, is_capture, itself, side_has_captures}
 use Rattle.avp_unlang.specs.declared.codes.Code.{Code}
 use Rattle.avp_unlang.specs.declared.tree.Branch.{Branch, out-Branch}
 use Rattle.avp_unlang.specs.declared.tree.Comparison.{Comparison}
 use Rattle.avp_unlang.specs.declared.tree.Cond.{Cond}
 use Rattle.avp_unlang.specs.declared.tree.Cond.TheFolds.{fold-roll-Cond}
 use Rattle.avp_unlang.specs.declared.tree.Cond.TheOpen as cond_layer
-use Rattle.avp_unlang.specs.declared.tree.Cond.TheVariants.{Any, All, Not, Last, Present, PresentSelected, Compare, CompareMeant, Match, Captured, rolls-Any, rolls-All, rolls-Not, rolls-Last, rolls-Present, rolls-PresentSelected, rolls-Compare, rolls-CompareMeant, rolls-Match, rolls-Captured}
+use Rattle.avp_unlang.specs.declared.tree.Cond.TheVariants.{Any, All, Not, Last, Present, PresentSelected, Compare, CompareMeant, CompareTexts, Match, MatchText, MatchGroup, Captured, rolls-Any, rolls-All, rolls-Not, rolls-Last, rolls-Present, rolls-PresentSelected, rolls-Compare, rolls-CompareMeant, rolls-CompareTexts, rolls-Match, rolls-MatchText, rolls-MatchGroup, rolls-Captured}
+use Rattle.avp_unlang.specs.declared.tree.GroupMatching.{GroupMatching}
 use Rattle.avp_unlang.specs.declared.tree.Line.{Line}
 use Rattle.avp_unlang.specs.declared.tree.Matching.{Matching}
 use Rattle.avp_unlang.specs.declared.tree.MeantComparison.{MeantComparison}
 use Rattle.avp_unlang.specs.declared.tree.Statement.{Statement}
+use Rattle.avp_unlang.specs.declared.tree.TextComparison.{TextComparison}
 use Rattle.avp_unlang.specs.declared.tree.Statement.TheFolds.{fold-roll-Statement, fold_out-Branch}
 use Rattle.avp_unlang.specs.declared.tree.Statement.TheOpen as layer
 use Rattle.avp_unlang.specs.declared.tree.Statement.TheVariants.{Update, If, Transaction, Word, rolls-Update, rolls-If, rolls-Transaction, rolls-Word}
@@ -73,6 +75,21 @@ pub uses_match : (m : Matching) → cond_uses_captures (Match m) ≡ false
 unfolding cond_uses_captures
 uses_match m =
     ap cond_uses_captures (sym (rolls-Match m)) ∙ fold-roll-Cond Bool cond_layer_captures (cond_layer.Match m)
+
+pub uses_compare_texts : (k : TextComparison) → cond_uses_captures (CompareTexts k) ≡ (side_has_captures k.left || list_any is_capture k.right)
+unfolding cond_uses_captures
+uses_compare_texts k =
+    ap cond_uses_captures (sym (rolls-CompareTexts k)) ∙ fold-roll-Cond Bool cond_layer_captures (cond_layer.CompareTexts k)
+
+pub uses_match_text : (m : Matching) → cond_uses_captures (MatchText m) ≡ false
+unfolding cond_uses_captures
+uses_match_text m =
+    ap cond_uses_captures (sym (rolls-MatchText m)) ∙ fold-roll-Cond Bool cond_layer_captures (cond_layer.MatchText m)
+
+pub uses_match_group : (m : GroupMatching) → cond_uses_captures (MatchGroup m) ≡ true
+unfolding cond_uses_captures
+uses_match_group m =
+    ap cond_uses_captures (sym (rolls-MatchGroup m)) ∙ fold-roll-Cond Bool cond_layer_captures (cond_layer.MatchGroup m)
 
 pub uses_captured : (group : ℕ) → cond_uses_captures (Captured group) ≡ true
 unfolding cond_uses_captures

@@ -1,11 +1,9 @@
 -- Which policies look at what was captured.
-use Rattle.std.specs.Prelude.{Bool, true, false, ◌||◌, List, Option, Some, None}
+use Rattle.std.specs.Prelude.{Bool, false, ◌||◌, List, Option, Some, None}
 use Rattle.std.specs.List.{list_any}
-use Rattle.avp_unlang.specs.Evaluations.{cond_uses_captures, itself}
+use Rattle.avp_unlang.specs.Evaluations.{cond_uses_captures, is_capture, itself}
 use Rattle.avp_unlang.specs.declared.tree.Branch.{Branch}
 use Rattle.avp_unlang.specs.declared.tree.Line.{Line}
-use Rattle.avp_unlang.specs.declared.tree.Part.{Part}
-use Rattle.avp_unlang.specs.declared.tree.Part.TheVariants.{Capture}
 use Rattle.avp_unlang.specs.declared.tree.Source.{Source}
 use Rattle.avp_unlang.specs.declared.tree.Source.TheVariants as source
 use Rattle.avp_unlang.specs.declared.tree.Statement.{Statement}
@@ -13,10 +11,6 @@ use Rattle.avp_unlang.specs.declared.tree.Statement.TheFolds.{fold-Statement, fo
 use Rattle.avp_unlang.specs.declared.tree.Statement.TheOpen.{Statement-F, Branch-F, Update, If, Transaction, Word}
 
 -- ---- update lines
-
-abbrev pub is_capture : Part → Bool
-is_capture (Capture group) = true
-is_capture _ = false
 
 abbrev pub source_uses_captures : Source → Bool
 source_uses_captures (source.Text raw parts) = list_any is_capture parts

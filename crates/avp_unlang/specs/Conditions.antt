@@ -1,12 +1,15 @@
 -- Conditions: how they are spelled. Each case is chosen by the next token.
-use Rattle.std.specs.Prelude.{◌≡◌, ℕ, zero, suc, Bool, true, false, not, ◌&&◌, ◌||◌, ◌==◌, List, [], ◌∷◌, Option, Some, None, if◌then◌else◌}
+use Rattle.std.specs.Prelude.{◌≡◌, ◌≢◌, ◌⊎◌, ℕ, zero, suc, Bool, true, false, not, ◌&&◌, ◌||◌, ◌==◌, List, [], ◌∷◌, Option, Some, None, if◌then◌else◌}
 use Rattle.std.specs.Option.{option_and_then, option_map, option_or, unwrap_or}
+use Rattle.avp_lists.specs.declared.lists.List.{List as Name}
 use Rattle.avp_lists.specs.declared.pairs.AttrId.{AttrId}
+use Rattle.avp_lists.specs.declared.tags.Selection.{Selection}
 use Rattle.avp_lists.specs.declared.pairs.Value.{Value}
 use Rattle.avp_dict.specs.declared.entries.Kind.{Kind}
 use Rattle.avp_dict.specs.declared.entries.Kind.TheVariants as kinds
 use Rattle.avp_dict.specs.declared.forms.Form.{Form as ValueForm}
 use Rattle.avp_dict.specs.declared.forms.Form.TheVariants as forms
+use Rattle.avp_dict.specs.declared.value.quotes.QuoteMark.{QuoteMark}
 use Rattle.avp_dict.specs.declared.value.quotes.QuoteMark.TheVariants as quote
 use Rattle.avp_dict.specs.Dictionary.{Dictionary}
 use Rattle.avp_forms.specs.declared.profiles.Profile.{Profile}
@@ -14,6 +17,7 @@ use Rattle.avp_forms.specs.Orders.{other_octets}
 use Rattle.avp_forms.specs.declared.profiles.Profile.TheVariants.{Plain, Wider}
 use Rattle.avp_forms.specs.declared.targets.Target.{Target}
 use Rattle.avp_dict.specs.Names.{form_of}
+use Rattle.avp_dict.specs.Spellings.{is_barred}
 use Rattle.avp_dict.specs.Quotes.{double_quoted_octets, single_quoted_octets}
 use Rattle.avp_patterns.specs.Patterns.{IsPattern, Written as Pattern}
 use Rattle.avp_unlang.specs.declared.codes.Code.{Code}
@@ -28,16 +32,22 @@ use Rattle.avp_unlang.specs.declared.tree.Comparand.{Comparand}
 use Rattle.avp_unlang.specs.declared.tree.Comparand.TheVariants.{Literal, Instance}
 use Rattle.avp_unlang.specs.declared.tree.Comparison.{Comparison}
 use Rattle.avp_unlang.specs.declared.tree.Cond.{Cond}
-use Rattle.avp_unlang.specs.declared.tree.Cond.TheVariants.{Any, All, Not, Last, Present, PresentSelected, Compare, CompareMeant, Match, Captured}
+use Rattle.avp_unlang.specs.declared.tree.Cond.TheVariants.{Any, All, Not, Last, Present, PresentSelected, Compare, CompareMeant, CompareTexts, Match, MatchText, MatchGroup, Captured}
+use Rattle.avp_unlang.specs.declared.tree.GroupMatching.{GroupMatching}
 use Rattle.avp_unlang.specs.declared.tree.Matching.{Matching as MatchingTree}
 use Rattle.avp_unlang.specs.declared.tree.MeantComparand.{MeantComparand}
 use Rattle.avp_unlang.specs.declared.tree.MeantComparand.TheVariants as meant
 use Rattle.avp_unlang.specs.declared.tree.MeantComparison.{MeantComparison}
+use Rattle.avp_unlang.specs.declared.tree.Part.{Part}
+use Rattle.avp_unlang.specs.declared.tree.Part.TheVariants as part
 use Rattle.avp_unlang.specs.declared.tree.Relation.{Relation}
+use Rattle.avp_unlang.specs.declared.tree.TextComparison.{TextComparison}
+use Rattle.avp_unlang.specs.declared.tree.TextSide.{TextSide}
+use Rattle.avp_unlang.specs.declared.tree.TextSide.TheVariants as side
 use Rattle.avp_unlang.specs.declared.tree.Relation.TheVariants as relation
 use Rattle.avp_unlang.specs.Forms.{Form, Becomes, Chain, Gives, ◌>>◌, ◌>>=◌}
 use Rattle.avp_dict.specs.Ascii.{backslash, left_brace, percent, slash}
-use Rattle.avp_unlang.specs.Parts.{group_in}
+use Rattle.avp_unlang.specs.Parts.{PartsAre, group_in, only_word}
 use Rattle.avp_unlang.specs.Places.{Place}
 use Rattle.avp_unlang.specs.References.{AlikeIs, ReadableIs, readable, type_of}
 use Rattle.avp_unlang.specs.Selecting.{selection_of}
@@ -175,14 +185,124 @@ abbrev pub is_by_meaning : Profile → Kind → Bool
 is_by_meaning Wider kinds.Bytes = true
 is_by_meaning _ _ = false
 
+-- ---- texts, of a wider policy
+
+-- octets as they are; no part where there are none
+abbrev pub plain_parts : List ℕ → List Part
+plain_parts [] = []
+plain_parts (c ∷ cs) = part.Text (c ∷ cs) ∷ []
+
+-- the parts of a text between quotes
+abbrev pub QuotedParts : Dictionary → QuoteMark → List ℕ → List Part → Type 0
+QuotedParts dictionary quote.Double text parts = PartsAre Wider dictionary text parts
+QuotedParts dictionary quote.Single text parts = parts ≡ plain_parts (single_quoted_octets text)
+
+-- a text with `%{` in it
+abbrev pub puts_in : Token → Bool
+puts_in (Quoted quote.Double text) = has_expansion false text
+puts_in _ = false
+
+-- what a text refers to that is one reference alone
+unfoldable pub only_reference : Dictionary → List ℕ → Option Reference
+only_reference dictionary text = option_and_then (readable Wider dictionary) (only_word text)
+
+-- the text on the right side of a comparison
+abbrev pub RightFrom : Dictionary → Token → Form Place (List Part)
+RightFrom dictionary (Word word) after parts rest = Gives (plain_parts word) after parts rest
+RightFrom dictionary (Quoted mark text) after parts rest =
+    QuotedParts dictionary mark text parts × (rest ≡ after)
+RightFrom dictionary _ after parts rest = ⊥
+
+abbrev pub RightIs : Dictionary → Form Place (List Part)
+RightIs dictionary p parts rest = RightFrom dictionary (next_token p).0 (next_token p).1 parts rest
+
+abbrev pub text_comparison : TextSide → Relation → List Part → TextComparison
+text_comparison left relation right =
+    record { left = left; relation = relation; right = right }
+
+abbrev pub TextsBy : Dictionary → TextSide → Relation → Form Place Cond
+TextsBy dictionary left relation = do
+  right ← RightIs dictionary
+  Gives (CompareTexts (text_comparison left relation right))
+
+abbrev pub side_of : Dictionary → Reference → TextSide
+side_of dictionary found =
+    side.Instance found.list found.target.named.id (selection_of dictionary found.target)
+
+-- an instance beside another, by meaning or by type
+abbrev pub instance_related : Bool → Dictionary → Reference → Relation → Reference → Cond
+instance_related true dictionary found relation other =
+    CompareMeant (meant_comparison dictionary found relation (instance_compared dictionary other))
+instance_related false dictionary found relation other =
+    Compare (comparison_of dictionary found relation
+    (Instance other.list other.target.named.id))
+
+-- what is compared with texts octet by octet: strings, and octets that mean no more than their type says
+abbrev pub is_compared_by_octets : Kind → ValueForm → Bool
+is_compared_by_octets kinds.Text form = true
+is_compared_by_octets kinds.Bytes forms.AsTyped = true
+is_compared_by_octets _ _ = false
+
+abbrev pub is_beside_texts : Dictionary → AttrId → Bool
+is_beside_texts dictionary id =
+    is_compared_by_octets (type_of dictionary id) (meant_form dictionary id)
+
+abbrev pub TextBesideOctets : Dictionary → Reference → Relation → Form Place Cond
+TextBesideOctets dictionary found relation p c rest =
+    (is_beside_texts dictionary found.target.named.id ≡ true)
+    × TextsBy dictionary (side_of dictionary found) relation p c rest
+
+-- the type of an attribute, and the form by which its octets mean something
+abbrev pub typing_of : Dictionary → Reference → Kind × ValueForm
+typing_of dictionary found =
+    (type_of dictionary found.target.named.id, meant_form dictionary found.target.named.id)
+
+-- a text with `%{` in it, beside a reference: one reference alone, to values of the same type and form, is that
+-- reference; any other text is compared octet by octet
+abbrev pub TextBeside : Dictionary → Reference → Relation → Option Reference → Form Place Cond
+TextBeside dictionary found relation None p c rest =
+    TextBesideOctets dictionary found relation p c rest
+TextBeside dictionary found relation (Some other) p c rest =
+    ((typing_of dictionary found ≡ typing_of dictionary other)
+    × (c ≡ instance_related (is_by_meaning Wider (type_of dictionary found.target.named.id))
+    dictionary found relation other)
+    × (rest ≡ (next_token p).1))
+    ⊎ ((typing_of dictionary found ≢ typing_of dictionary other)
+    × TextBesideOctets dictionary found relation p c rest)
+
+abbrev pub reference_alone : Dictionary → Token → Option Reference
+reference_alone dictionary (Quoted quote.Double text) = only_reference dictionary text
+reference_alone dictionary _ = None
+
+-- of names that may be written
+abbrev pub RelatedToText : Dictionary → Reference → Relation → Form Place Cond
+RelatedToText dictionary found relation p c rest =
+    (is_barred found.target.named dictionary ≡ false)
+    × TextBeside dictionary found relation (reference_alone dictionary (next_token p).0) p c rest
+
+-- ---- references compared
+
 abbrev pub RelatedBy : Bool → Profile → Dictionary → Reference → Relation → Form Place Cond
 RelatedBy true profile dictionary found relation = MeantBy dictionary found relation
 RelatedBy false profile dictionary found relation = ComparedBy profile dictionary found relation
 
-abbrev pub RelatedIs : Profile → Dictionary → Reference → Relation → Form Place Cond
-RelatedIs profile dictionary found relation =
+abbrev pub ValueRelated : Profile → Dictionary → Reference → Relation → Form Place Cond
+ValueRelated profile dictionary found relation =
     RelatedBy (is_by_meaning profile (type_of dictionary found.target.named.id)) profile dictionary
     found relation
+
+-- a wider policy takes a text with `%{` in it
+abbrev pub is_text_beside : Profile → Token → Bool
+is_text_beside Plain token = false
+is_text_beside Wider token = puts_in token
+
+abbrev pub RelatedAs : Bool → Profile → Dictionary → Reference → Relation → Form Place Cond
+RelatedAs true profile dictionary found relation = RelatedToText dictionary found relation
+RelatedAs false profile dictionary found relation = ValueRelated profile dictionary found relation
+
+abbrev pub RelatedIs : Profile → Dictionary → Reference → Relation → Form Place Cond
+RelatedIs profile dictionary found relation p c rest =
+    RelatedAs (is_text_beside profile (next_token p).0) profile dictionary found relation p c rest
 
 -- ---- comparisons with a pattern, of a wider policy
 
@@ -260,6 +380,72 @@ WordFrom profile dictionary None word p c rest =
     (found : Reference) × (readable profile dictionary word ≡ Some found)
     × ComparedIs profile dictionary found p c rest
 
+-- ---- texts on the left side
+
+abbrev pub is_text : Token → Bool
+is_text (Word word) = true
+is_text (Quoted mark text) = true
+is_text _ = false
+
+-- one reference alone, beside a text without `%{`, is that reference
+abbrev pub TextRelatedFrom : Dictionary → Option Reference → Bool → List Part → Relation
+    → Form Place Cond
+TextRelatedFrom dictionary (Some found) false parts relation =
+    ValueRelated Wider dictionary found relation
+TextRelatedFrom dictionary _ _ parts relation = TextsBy dictionary (side.Text parts) relation
+
+abbrev pub TextRelated : Dictionary → Option Reference → List Part → Relation → Form Place Cond
+TextRelated dictionary alone parts relation p c rest =
+    (is_text (next_token p).0 ≡ true)
+    × TextRelatedFrom dictionary alone (puts_in (next_token p).0) parts relation p c rest
+
+abbrev pub text_matching : Matcher → Name → AttrId → Selection → MatchingTree
+text_matching m list id selection = record {
+  list = list;
+  id = id;
+  selection = selection;
+  negated = m.negated;
+  pattern = unslashed m.pattern;
+  flags = m.flags;
+}
+
+abbrev pub group_matching : Matcher → ℕ → GroupMatching
+group_matching m group = record {
+  group = group;
+  negated = m.negated;
+  pattern = unslashed m.pattern;
+  flags = m.flags;
+}
+
+-- of texts one expansion alone is compared with a pattern: the text of an instance, or a group
+abbrev pub text_match : Matcher → List Part → Option Cond
+text_match m (part.Meant list id selection ∷ []) =
+    Some (MatchText (text_matching m list id selection))
+text_match m (part.Capture group ∷ []) = Some (MatchGroup (group_matching m group))
+text_match m _ = None
+
+abbrev pub TextMatched : Matcher → List Part → Form Place Cond
+TextMatched m parts p c rest = IsPattern (pattern_of m) × Becomes (text_match m parts) p c rest
+
+-- after a text: a pattern, or an operator that compares; a group may also be alone
+abbrev pub TextComparedFrom : Dictionary → QuoteMark → List ℕ → Option Matcher → Option Relation
+    → Place → Form Place Cond
+TextComparedFrom dictionary mark text (Some m) related p after c rest =
+    (parts : List Part) × QuotedParts dictionary mark text parts × TextMatched m parts after c rest
+TextComparedFrom dictionary mark text None (Some relation) p after c rest =
+    (parts : List Part) × QuotedParts dictionary mark text parts
+    × TextRelated dictionary (reference_alone dictionary (Quoted mark text)) parts relation after
+    c rest
+TextComparedFrom dictionary quote.Double text None None p after c rest =
+    Becomes (option_map Captured (group_in Wider text)) p c rest
+TextComparedFrom dictionary quote.Single text None None p after c rest = ⊥
+
+abbrev pub TextOperand : Profile → Dictionary → QuoteMark → List ℕ → Form Place Cond
+TextOperand Plain dictionary mark text p c rest = ⊥
+TextOperand Wider dictionary mark text p c rest =
+    TextComparedFrom dictionary mark text (matcher_in Wider (next_token p).0)
+    (relation_of (next_token p).0) p (next_token p).1 c rest
+
 -- ---- operands
 
 -- one operand is itself
@@ -303,8 +489,8 @@ OperandFrom profile dictionary inner (Operator sign.Reference) after c rest =
     ReferredIs profile dictionary after c rest
 OperandFrom profile dictionary inner (Word word) after c rest =
     WordFrom profile dictionary (code_named word) word after c rest
-OperandFrom profile dictionary inner (Quoted quote.Double text) after c rest =
-    Becomes (option_map Captured (group_in profile text)) after c rest
+OperandFrom profile dictionary inner (Quoted mark text) after c rest =
+    TextOperand profile dictionary mark text after c rest
 OperandFrom profile dictionary inner _ after c rest = ⊥
 
 abbrev pub OperandIs : Profile → Dictionary → Form Place Cond → Form Place Cond

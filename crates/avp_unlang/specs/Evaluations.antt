@@ -1,5 +1,5 @@
 -- What conditions come to, from left to right: whether they are true, and what was captured after them.
-use Rattle.std.specs.Prelude.{ℕ, Bool, true, false, not, nat_lt, if◌then◌else◌, List, [], ◌∷◌, is_some, length}
+use Rattle.std.specs.Prelude.{Bool, true, false, not, ◌||◌, nat_lt, if◌then◌else◌, List, [], ◌∷◌, is_some, length}
 use Rattle.std.specs.List.{list_any}
 use Rattle.avp_lists.specs.Instances.{has_instance}
 use Rattle.avp_lists.specs.Selections.{first_selected_instance}
@@ -8,11 +8,16 @@ use Rattle.avp_lists.specs.declared.lists.State.{State}
 use Rattle.avp_dict.specs.Dictionary.{Dictionary}
 use Rattle.avp_unlang.specs.Captures.{Captures, captured, captures_after}
 use Rattle.avp_unlang.specs.PatternTruth.{is_matched}
+use Rattle.avp_unlang.specs.Texts.{captures_after_group, captures_after_text, is_group_matched, is_met_by_texts, is_text_matched}
 use Rattle.avp_unlang.specs.Truth.{is_met, is_met_by_meaning, same_code}
 use Rattle.avp_unlang.specs.declared.codes.Code.{Code}
 use Rattle.avp_unlang.specs.declared.tree.Cond.{Cond}
+use Rattle.avp_unlang.specs.declared.tree.Part.{Part}
+use Rattle.avp_unlang.specs.declared.tree.Part.TheVariants.{Capture}
+use Rattle.avp_unlang.specs.declared.tree.TextSide.{TextSide}
+use Rattle.avp_unlang.specs.declared.tree.TextSide.TheVariants as side
 use Rattle.avp_unlang.specs.declared.tree.Cond.TheFolds.{fold-Cond}
-use Rattle.avp_unlang.specs.declared.tree.Cond.TheOpen.{Cond-F, Any, All, Not, Last, Present, PresentSelected, Compare, CompareMeant, Match, Captured}
+use Rattle.avp_unlang.specs.declared.tree.Cond.TheOpen.{Cond-F, Any, All, Not, Last, Present, PresentSelected, Compare, CompareMeant, CompareTexts, Match, MatchText, MatchGroup, Captured}
 
 -- whether a condition is true, and what was captured after it
 pub record Evaluated : Type 0 where
@@ -59,6 +64,12 @@ cond_evaluated dictionary (CompareMeant comparison) s c captures =
     decided (is_met_by_meaning comparison s) captures
 cond_evaluated dictionary (Match matching) s c captures =
     decided (is_matched dictionary matching s) (captures_after dictionary matching s captures)
+cond_evaluated dictionary (CompareTexts comparison) s c captures =
+    decided (is_met_by_texts dictionary comparison s captures) captures
+cond_evaluated dictionary (MatchText matching) s c captures =
+    decided (is_text_matched dictionary matching s) (captures_after_text dictionary matching s)
+cond_evaluated dictionary (MatchGroup matching) s c captures =
+    decided (is_group_matched matching captures) (captures_after_group matching captures)
 cond_evaluated dictionary (Captured group) s c captures =
     decided (nat_lt 0 (length (captured group captures))) captures
 
@@ -71,11 +82,22 @@ evaluated dictionary = fold-Cond Evaluation (cond_evaluated dictionary)
 abbrev pub itself : Bool → Bool
 itself b = b
 
+abbrev pub is_capture : Part → Bool
+is_capture (Capture group) = true
+is_capture _ = false
+
+abbrev pub side_has_captures : TextSide → Bool
+side_has_captures (side.Text parts) = list_any is_capture parts
+side_has_captures (side.Instance list id selection) = false
+
 abbrev pub cond_layer_captures : Cond-F Bool → Bool
 cond_layer_captures (Any parts) = list_any itself parts
 cond_layer_captures (All parts) = list_any itself parts
 cond_layer_captures (Not part) = part
 cond_layer_captures (Captured group) = true
+cond_layer_captures (CompareTexts comparison) =
+    side_has_captures comparison.left || list_any is_capture comparison.right
+cond_layer_captures (MatchGroup matching) = true
 cond_layer_captures _ = false
 
 -- whether a condition looks at what was captured

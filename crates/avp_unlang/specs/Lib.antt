@@ -21,12 +21,14 @@ pub mod RefusedLines
 pub mod RefusedPolicies
 pub mod RefusedStatements
 pub mod RefusedValues
+pub mod Relations
 pub mod Resolutions
 pub mod Selecting
 pub mod Sizes
 pub mod Sources
 pub mod Statements
 pub mod Suiting
+pub mod Texts
 pub mod Tokens
 pub mod Truth
 pub mod Values

@@ -1,6 +1,6 @@
 -- What a policy makes of a state and a code where each condition is decided by its truth alone, and no text looks at
 -- what was captured.
-use Rattle.std.specs.Prelude.{ℕ, if◌then◌else◌, List, [], ◌∷◌, map, Option, Some, None}
+use Rattle.std.specs.Prelude.{if◌then◌else◌, List, [], ◌∷◌, map, Option, Some, None}
 use Rattle.avp_lists.specs.declared.lists.State.{State}
 use Rattle.avp_dict.specs.Dictionary.{Dictionary}
 use Rattle.avp_unlang.specs.Meaning.{Edited, Failed, LineResult, Outcome, after_failure, after_word, line_result, running}

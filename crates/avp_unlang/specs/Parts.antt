@@ -96,6 +96,14 @@ abbrev pub only_group : Profile → List ℕ × List ℕ → Option ℕ
 only_group profile (word, []) = group_named profile word
 only_group profile (word, _ ∷ _) = None
 
+abbrev pub unless_group : List ℕ × List ℕ → Option (List ℕ)
+unless_group (word, []) = if is_some (group_named Wider word) then None else Some word
+unless_group (word, _ ∷ _) = None
+
+-- the word that a whole text has between `%{` and `}`, which is no group
+unfoldable pub only_word : List ℕ → Option (List ℕ)
+only_word text = option_and_then unless_group (option_and_then braced (after_opening text))
+
 -- the group that a whole text puts in: `%{`, its digit, and `}`
 unfoldable pub group_in : Profile → List ℕ → Option ℕ
 group_in profile text =

@@ -1,14 +1,11 @@
 -- Comparisons with a pattern: whether one is met in a state.
-use Rattle.std.specs.Prelude.{ℕ, Bool, true, false, not, ◌&&◌, nat_le, List, Option, length, if◌then◌else◌}
-use Rattle.std.specs.Option.{option_map, option_map_or}
+use Rattle.std.specs.Prelude.{ℕ, Bool, false, not, ◌&&◌, List, Option, if◌then◌else◌}
+use Rattle.std.specs.Option.{option_map_or}
 use Rattle.avp_lists.specs.Selections.{first_selected_instance}
 use Rattle.avp_lists.specs.States.{list_of}
 use Rattle.avp_lists.specs.declared.lists.State.{State}
 use Rattle.avp_lists.specs.declared.pairs.Pair.{Pair}
-use Rattle.avp_lists.specs.declared.pairs.Value.{Value}
-use Rattle.avp_lists.specs.declared.pairs.Value.TheVariants.{Raw, Text}
 use Rattle.avp_dict.specs.Dictionary.{Dictionary}
-use Rattle.avp_dict.specs.Limits.{max_long_octets}
 use Rattle.avp_forms.specs.Expansions.{has_few_digits, is_printed_by_type}
 use Rattle.avp_patterns.specs.Matching.{matches}
 use Rattle.avp_patterns.specs.Patterns.{Written}
@@ -33,16 +30,7 @@ abbrev pub is_matched : Dictionary → Matching → State → Bool
 is_matched dictionary m s =
     option_map_or (λ pair. agrees m (meaning_put dictionary pair)) (instance_in m s) false
 
--- what is put in for an instance is of its type, and where it is octets' digits of no more octets than an attribute may
--- have
+-- an instance that is printed by its type, and if as digits, of no more octets than an attribute may have
 abbrev pub is_matchable_by : Dictionary → Pair → Bool
 is_matchable_by dictionary pair =
     has_few_digits pair.value && is_printed_by_type pair.id pair.value dictionary
-
--- a string, or raw octets of which there are no more than an attribute may have
-abbrev pub is_matchable : Pair → Bool
-is_matchable pair = elim pair.value [
-  | Text os ↦ true
-  | Raw os ↦ nat_le (length os) max_long_octets
-  | _ ↦ false
-]

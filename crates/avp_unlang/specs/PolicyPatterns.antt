@@ -2,12 +2,12 @@
 use Rattle.std.specs.Prelude.{◌≡◌, Bool, true, false, not, ◌&&◌, bytes_eq, IsTrue, List, Option, None, Some}
 use Rattle.std.specs.List.{list_all, list_any}
 use Rattle.avp_patterns.specs.Patterns.{Written}
-use Rattle.avp_patterns.specs.declared.flags.PatternFlags.{PatternFlags}
 use Rattle.avp_unlang.specs.PatternTruth.{pattern_in}
+use Rattle.avp_unlang.specs.Texts.{group_pattern}
 use Rattle.avp_unlang.specs.declared.tree.Branch.{Branch}
 use Rattle.avp_unlang.specs.declared.tree.Cond.{Cond}
 use Rattle.avp_unlang.specs.declared.tree.Cond.TheFolds.{fold-Cond}
-use Rattle.avp_unlang.specs.declared.tree.Cond.TheOpen.{Cond-F, Any, All, Not, Last, Present, PresentSelected, Compare, CompareMeant, Match, Captured}
+use Rattle.avp_unlang.specs.declared.tree.Cond.TheOpen.{Cond-F, Any, All, Not, Last, Present, PresentSelected, Compare, CompareMeant, CompareTexts, Match, MatchText, MatchGroup, Captured}
 use Rattle.avp_unlang.specs.declared.tree.Statement.{Statement}
 use Rattle.avp_unlang.specs.declared.tree.Statement.TheFolds.{fold-Statement, fold-Branch}
 use Rattle.avp_unlang.specs.declared.tree.Statement.TheOpen.{Statement-F, Branch-F, Update, If, Transaction, Word}
@@ -40,6 +40,9 @@ cond_layer_passes test (PresentSelected list id selection) = true
 cond_layer_passes test (Compare comparison) = true
 cond_layer_passes test (CompareMeant comparison) = true
 cond_layer_passes test (Match matching) = test (pattern_in matching)
+cond_layer_passes test (CompareTexts comparison) = true
+cond_layer_passes test (MatchText matching) = test (pattern_in matching)
+cond_layer_passes test (MatchGroup matching) = test (group_pattern matching)
 cond_layer_passes test (Captured group) = true
 
 -- each pattern that a condition compares with passes a test

@@ -1,4 +1,5 @@
--- When a policy suits a dictionary: its attributes are known, its literals fit, and what it compares is of one type.
+-- When a policy suits a dictionary: its attributes are known, its literals fit, and what it compares is of one type, or
+-- a text or a pattern beside a type that is compared with those.
 use Rattle.std.specs.Prelude.{ℕ, Bool, true, false, not, ◌&&◌, List, Option, Some, None}
 use Rattle.std.specs.List.{list_all}
 use Rattle.avp_dict.specs.Limits.{fits}
@@ -6,6 +7,7 @@ use Rattle.avp_dict.specs.Sent.{is_container}
 use Rattle.avp_dict.specs.declared.entries.Kind.{Kind}
 use Rattle.avp_dict.specs.declared.entries.Kind.TheVariants as kinds
 use Rattle.avp_dict.specs.Dictionary.{Dictionary}
+use Rattle.avp_unlang.specs.Conditions.{is_beside_texts}
 use Rattle.avp_unlang.specs.Policies.{SpellsPolicy}
 use Rattle.avp_unlang.specs.References.{type_of}
 use Rattle.avp_unlang.specs.Resolutions.{line_suits, pair_of}
@@ -15,7 +17,11 @@ use Rattle.avp_unlang.specs.declared.tree.Comparison.{Comparison}
 use Rattle.avp_unlang.specs.declared.tree.Branch.{Branch}
 use Rattle.avp_unlang.specs.declared.tree.Cond.{Cond}
 use Rattle.avp_unlang.specs.declared.tree.Cond.TheFolds.{fold-Cond}
-use Rattle.avp_unlang.specs.declared.tree.Cond.TheOpen.{Cond-F, Any, All, Not, Last, Present, PresentSelected, Compare, CompareMeant, Match, Captured}
+use Rattle.avp_unlang.specs.declared.tree.Cond.TheOpen.{Cond-F, Any, All, Not, Last, Present, PresentSelected, Compare, CompareMeant, CompareTexts, Match, MatchText, MatchGroup, Captured}
+use Rattle.avp_unlang.specs.declared.tree.Part.{Part}
+use Rattle.avp_unlang.specs.declared.tree.Part.TheVariants as part
+use Rattle.avp_unlang.specs.declared.tree.TextSide.{TextSide}
+use Rattle.avp_unlang.specs.declared.tree.TextSide.TheVariants as side
 use Rattle.avp_unlang.specs.declared.tree.Statement.{Statement}
 use Rattle.avp_unlang.specs.declared.tree.Statement.TheFolds.{fold-Statement, fold-Branch}
 use Rattle.avp_unlang.specs.declared.tree.Statement.TheOpen.{Statement-F, Branch-F, Update, If, Transaction, Word}
@@ -45,6 +51,18 @@ abbrev pub comparison_suits : Dictionary → Comparison → Bool
 comparison_suits dictionary c =
     same_kind c.kind (type_of dictionary c.id) && comparand_suits dictionary c c.comparand
 
+-- values are put in as what they mean, of attributes that have values
+abbrev pub part_suits : Part → Bool
+part_suits (part.Meant list id selection) = not (is_container id)
+part_suits (part.Instance list id) = false
+part_suits _ = true
+
+-- an instance is of a type that is compared with texts
+abbrev pub side_suits : Dictionary → TextSide → Bool
+side_suits dictionary (side.Text parts) = list_all part_suits parts
+side_suits dictionary (side.Instance list id selection) =
+    not (is_container id) && is_beside_texts dictionary id
+
 abbrev pub itself : Bool → Bool
 itself b = b
 
@@ -58,6 +76,10 @@ cond_layer_suits dictionary (PresentSelected list id selection) = true
 cond_layer_suits dictionary (Compare comparison) = comparison_suits dictionary comparison
 cond_layer_suits dictionary (CompareMeant comparison) = true
 cond_layer_suits dictionary (Match matching) = not (is_container matching.id)
+cond_layer_suits dictionary (CompareTexts comparison) =
+    side_suits dictionary comparison.left && list_all part_suits comparison.right
+cond_layer_suits dictionary (MatchText matching) = not (is_container matching.id)
+cond_layer_suits dictionary (MatchGroup matching) = true
 cond_layer_suits dictionary (Captured group) = true
 
 unfoldable pub cond_suits : Dictionary → Cond → Bool

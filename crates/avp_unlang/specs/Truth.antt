@@ -3,7 +3,7 @@ use Rattle.std.specs.Prelude.{ℕ, Bool, true, false, not, ◌&&◌, ◌||◌, i
 use Rattle.std.specs.Cmp.Lexicographic.{slice_cmp}
 use Rattle.std.specs.List.{list_any, list_all}
 use Rattle.std.specs.Option.{option_and_then, option_map, option_map_or}
-use Rattle.std.specs.Ordering.{is_eq, is_ne, is_lt, is_le, is_gt, is_ge, nat_cmp, int_cmp}
+use Rattle.std.specs.Ordering.{nat_cmp, int_cmp}
 use Rattle.std.specs.declared.cmp.Ordering.{Ordering}
 use Rattle.avp_lists.specs.Instances.{first_instance, has_instance}
 use Rattle.avp_lists.specs.Selections.{first_selected_instance}
@@ -24,7 +24,10 @@ use Rattle.avp_dict.specs.declared.forms.Form.{Form}
 use Rattle.avp_dict.specs.declared.forms.Form.TheVariants.{AsTyped}
 use Rattle.avp_forms.specs.Orders.{order_by_meaning}
 use Rattle.avp_dict.specs.Dictionary.{Dictionary}
-use Rattle.avp_unlang.specs.PatternTruth.{instance_in, is_matchable, is_matchable_by, is_matched}
+use Rattle.avp_unlang.specs.PatternTruth.{instance_in, is_matchable_by, is_matched}
+use Rattle.avp_unlang.specs.Captures.{no_captures}
+use Rattle.avp_unlang.specs.Relations.{meets}
+use Rattle.avp_unlang.specs.Texts.{is_group_matched, is_met_by_texts, is_text_matched}
 use Rattle.avp_unlang.specs.declared.codes.Code.{Code}
 use Rattle.avp_unlang.specs.declared.codes.Code.TheVariants as code
 use Rattle.avp_unlang.specs.declared.tree.Comparand.{Comparand}
@@ -32,13 +35,19 @@ use Rattle.avp_unlang.specs.declared.tree.Comparand.TheVariants.{Literal, Instan
 use Rattle.avp_unlang.specs.declared.tree.Comparison.{Comparison}
 use Rattle.avp_unlang.specs.declared.tree.Cond.{Cond}
 use Rattle.avp_unlang.specs.declared.tree.Cond.TheFolds.{fold-Cond}
-use Rattle.avp_unlang.specs.declared.tree.Cond.TheOpen.{Cond-F, Any, All, Not, Last, Present, PresentSelected, Compare, CompareMeant, Match, Captured}
+use Rattle.avp_unlang.specs.declared.tree.Cond.TheOpen.{Cond-F, Any, All, Not, Last, Present, PresentSelected, Compare, CompareMeant, CompareTexts, Match, MatchText, MatchGroup, Captured}
+use Rattle.avp_unlang.specs.declared.tree.GroupMatching.{GroupMatching}
 use Rattle.avp_unlang.specs.declared.tree.Matching.{Matching}
 use Rattle.avp_unlang.specs.declared.tree.MeantComparand.{MeantComparand}
 use Rattle.avp_unlang.specs.declared.tree.MeantComparand.TheVariants as meant
 use Rattle.avp_unlang.specs.declared.tree.MeantComparison.{MeantComparison}
+use Rattle.avp_unlang.specs.declared.tree.Part.{Part}
+use Rattle.avp_unlang.specs.declared.tree.Part.TheVariants as part
 use Rattle.avp_unlang.specs.declared.tree.Relation.{Relation}
-use Rattle.avp_unlang.specs.declared.tree.Relation.TheVariants.{Equal, Differs, Less, AtMost, Greater, AtLeast}
+use Rattle.avp_unlang.specs.declared.tree.Relation.TheVariants.{Differs}
+use Rattle.avp_unlang.specs.declared.tree.TextComparison.{TextComparison}
+use Rattle.avp_unlang.specs.declared.tree.TextSide.{TextSide}
+use Rattle.avp_unlang.specs.declared.tree.TextSide.TheVariants as side
 
 -- ---- two values
 
@@ -71,14 +80,6 @@ abbrev pub order : Kind → Value → Value → Option Ordering
 order kind v w =
     if is_numeric kind then number_order v w
     else Some (slice_cmp nat_cmp (octets_of (Some kind) v) (octets_of (Some kind) w))
-
-abbrev pub meets : Relation → Ordering → Bool
-meets Equal o = is_eq o
-meets Differs o = is_ne o
-meets Less o = is_lt o
-meets AtMost o = is_le o
-meets Greater o = is_gt o
-meets AtLeast o = is_ge o
 
 -- values without an order are in no relation, also not different
 abbrev pub relates : Kind → Relation → Value → Value → Bool
@@ -158,31 +159,58 @@ same_code _ _ = false
 abbrev pub Test : Type 0
 Test = State → Code → Bool
 
+-- how comparisons are decided for which values are printed
+pub record Printed : Type 0 where
+  pub matched : Matching → State → Bool
+  pub texts : TextComparison → State → Bool
+  pub text_matched : Matching → State → Bool
+  pub group_matched : GroupMatching → Bool
+
 -- a condition, each part of it decided: a code is true if it is the last one, and a reference if it has an instance;
 -- what was captured is not looked at, and counts as empty
-abbrev pub cond_truth_with : (Matching → State → Bool) → Cond-F Test → Test
-cond_truth_with matched (Any tests) s c = list_any (λ (test : Test). test s c) tests
-cond_truth_with matched (All tests) s c = list_all (λ (test : Test). test s c) tests
-cond_truth_with matched (Not test) s c = not (test s c)
-cond_truth_with matched (Last word) s c = same_code c word
-cond_truth_with matched (Present list id) s c = has_instance id (list_of list s)
-cond_truth_with matched (PresentSelected list id selection) s c =
+abbrev pub cond_truth_with : Printed → Cond-F Test → Test
+cond_truth_with printed (Any tests) s c = list_any (λ (test : Test). test s c) tests
+cond_truth_with printed (All tests) s c = list_all (λ (test : Test). test s c) tests
+cond_truth_with printed (Not test) s c = not (test s c)
+cond_truth_with printed (Last word) s c = same_code c word
+cond_truth_with printed (Present list id) s c = has_instance id (list_of list s)
+cond_truth_with printed (PresentSelected list id selection) s c =
     is_some (first_selected_instance selection id (list_of list s))
-cond_truth_with matched (Compare comparison) s c = is_met comparison s
-cond_truth_with matched (CompareMeant comparison) s c = is_met_by_meaning comparison s
-cond_truth_with matched (Match matching) s c = matched matching s
-cond_truth_with matched (Captured group) s c = false
+cond_truth_with printed (Compare comparison) s c = is_met comparison s
+cond_truth_with printed (CompareMeant comparison) s c = is_met_by_meaning comparison s
+cond_truth_with printed (Match matching) s c = printed.matched matching s
+cond_truth_with printed (CompareTexts comparison) s c = printed.texts comparison s
+cond_truth_with printed (MatchText matching) s c = printed.text_matched matching s
+cond_truth_with printed (MatchGroup matching) s c = printed.group_matched matching
+cond_truth_with printed (Captured group) s c = false
 
 abbrev pub never_matched : Matching → State → Bool
 never_matched matching s = false
 
--- whether a condition is true that compares with no pattern; a comparison with one counts as false
+abbrev pub nothing_printed : Printed
+nothing_printed = record {
+  matched = never_matched;
+  texts = λ c s. false;
+  text_matched = never_matched;
+  group_matched = λ m. false;
+}
+
+-- whether a condition is true that compares with no pattern and no texts; comparisons with these count as false
 unfoldable pub truth : Cond → Test
-truth = fold-Cond Test (cond_truth_with never_matched)
+truth = fold-Cond Test (cond_truth_with nothing_printed)
+
+-- where nothing was captured
+abbrev pub printed_by : Dictionary → Printed
+printed_by dictionary = record {
+  matched = is_matched dictionary;
+  texts = λ c s. is_met_by_texts dictionary c s no_captures;
+  text_matched = is_text_matched dictionary;
+  group_matched = λ m. is_group_matched m no_captures;
+}
 
 -- whether a condition is true, by the dictionary by which values are printed
 unfoldable pub truth_by : Dictionary → Cond → Test
-truth_by dictionary = fold-Cond Test (cond_truth_with (is_matched dictionary))
+truth_by dictionary = fold-Cond Test (cond_truth_with (printed_by dictionary))
 
 -- ---- what can be compared
 
@@ -204,18 +232,46 @@ cond_comparable (Present list id) s = true
 cond_comparable (PresentSelected list id selection) s = true
 cond_comparable (Compare comparison) s = is_comparable comparison s
 cond_comparable (CompareMeant comparison) s = true
-cond_comparable (Match matching) s = option_map_or is_matchable (instance_in matching s) true
+cond_comparable (Match matching) s = true
+cond_comparable (CompareTexts comparison) s = true
+cond_comparable (MatchText matching) s = true
+cond_comparable (MatchGroup matching) s = true
 cond_comparable (Captured group) s = true
 
--- what a condition compares in a state is raw, or of the type that the condition keeps for it
+-- what `holds` wants: each value that is compared by its type is raw, or of the type that the condition keeps for it;
+-- it looks at no pattern and at no text
 unfoldable pub comparable : Cond → State → Bool
 comparable = fold-Cond (State → Bool) cond_comparable
+
+-- the first of the instances that a part or a side means can be put in
+abbrev pub is_printable_at : Dictionary → Name → AttrId → Selection → State → Bool
+is_printable_at dictionary list id selection s =
+    option_map_or (is_matchable_by dictionary)
+    (first_selected_instance selection id (list_of list s)) true
+
+abbrev pub part_printable : Dictionary → State → Part → Bool
+part_printable dictionary s (part.Meant list id selection) =
+    is_printable_at dictionary list id selection s
+part_printable dictionary s (part.Instance list id) = false
+part_printable dictionary s _ = true
+
+abbrev pub side_printable : Dictionary → State → TextSide → Bool
+side_printable dictionary s (side.Text parts) = list_all (part_printable dictionary s) parts
+side_printable dictionary s (side.Instance list id selection) = true
+
+abbrev pub are_printable : Dictionary → TextComparison → State → Bool
+are_printable dictionary c s =
+    side_printable dictionary s c.left && list_all (part_printable dictionary s) c.right
 
 abbrev pub cond_comparable_by : Dictionary → Cond-F (State → Bool) → State → Bool
 cond_comparable_by dictionary (Match matching) s =
     option_map_or (is_matchable_by dictionary) (instance_in matching s) true
+cond_comparable_by dictionary (CompareTexts comparison) s = are_printable dictionary comparison s
+cond_comparable_by dictionary (MatchText matching) s =
+    option_map_or (is_matchable_by dictionary) (instance_in matching s) true
 cond_comparable_by dictionary layer s = cond_comparable layer s
 
--- the same, where values of any type may be compared with a pattern, as the dictionary prints them
+-- what `holds_by` and `evaluate` want: the same, and each instance whose text is searched or compared can be printed by
+-- the dictionary
 unfoldable pub comparable_by : Dictionary → Cond → State → Bool
 comparable_by dictionary = fold-Cond (State → Bool) (cond_comparable_by dictionary)

@@ -29,9 +29,12 @@ pub enum PolicyKind {
     /// A size above 65535.
     #[error("policy too large")]
     TooLarge,
-    /// The attributes on both sides have values of different types.
+    /// The two sides are of different types, or a text is beside an attribute that is not compared with texts.
     #[error("types differ")]
     OtherType,
+    /// A text that is not one expansion alone is compared with a pattern.
+    #[error("not one expansion")]
+    NotExpansion,
     /// What is written as a pattern is none, or is too large; the places are those in the text of the pattern.
     #[error("{0}")]
     Pattern(PatternFault),

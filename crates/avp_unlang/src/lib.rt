@@ -28,6 +28,7 @@ pub use text::policies::{
     Policy, keeps_reply_clean, one_policy, plain_has_no_patterns, read_policy, refused_once, size,
 };
 pub use tree::{
-    Block, Branch, Branches, Comparand, Comparison, Cond, Line, Lines, Matching, MeantComparand,
-    MeantComparison, Part, Parts, Relation, Source, Statement,
+    Block, Branch, Branches, Comparand, Comparison, Cond, GroupMatching, Line, Lines, Matching,
+    MeantComparand, MeantComparison, Part, Parts, Relation, Source, Statement, TextComparison,
+    TextSide,
 };

@@ -7,4 +7,5 @@ pub mod matchers;
 pub mod matching;
 pub mod reasons;
 pub mod resolving;
+pub mod texts;
 pub mod truth;

@@ -15,5 +15,6 @@ pub mod references;
 pub mod selecting;
 pub mod sources;
 pub mod statements;
+pub mod texts;
 pub mod tokens;
 pub mod values;

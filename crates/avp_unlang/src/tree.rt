@@ -127,6 +127,34 @@ pub struct Matching {
     pub flags: PatternFlags,
 }
 
+/// What a comparison of texts in a wider policy has on its left side.
+#[derive(Debug, Drop)]
+pub enum TextSide {
+    Text(Parts),
+    /// The first of these instances of an attribute of type string or octets.
+    Instance(List, AttrId, Selection),
+}
+
+/// A comparison with a text in a wider policy: of two texts as numbers where both are decimal digits alone, else octet
+/// by octet; of an instance always octet by octet.
+#[derive(Debug, Drop)]
+pub struct TextComparison {
+    pub left: TextSide,
+    pub relation: Relation,
+    pub right: Parts,
+}
+
+/// A comparison of what was captured of a group in a wider policy with a pattern.
+#[derive(Debug, Drop)]
+pub struct GroupMatching {
+    pub group: u8,
+    /// Whether this is `!~`, by which the pattern may not match, and not `=~`.
+    pub negated: bool,
+    /// The text of the pattern.
+    pub pattern: Octets,
+    pub flags: PatternFlags,
+}
+
 /// What an `if` or `elsif` asks for.
 #[derive(Debug, Drop)]
 pub enum Cond {
@@ -144,6 +172,10 @@ pub enum Cond {
     Compare(Comparison),
     CompareMeant(MeantComparison),
     Match(Matching),
+    CompareTexts(TextComparison),
+    /// `"%{Name}" =~ /../`: as `Match`, of a text that is empty where there is no instance.
+    MatchText(Matching),
+    MatchGroup(GroupMatching),
     /// `"%{0}"` to `"%{9}"` in a wider policy: whether this group of the last comparison with a pattern captured an octet
     /// or more.
     Captured(u8),

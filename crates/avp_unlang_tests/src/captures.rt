@@ -132,10 +132,11 @@ fn expect_misplaced(
     dictionary: &Dictionary,
     profile: &str,
     cond: &str,
+    before: usize,
 ) -> Result<(), Fail> {
     let refused = policy_with(alloc, dictionary, profile, cond).err();
     let place = refused.map(|fault| (fault.kind, fault.offset));
-    let offset = profile.len().saturating_add(4);
+    let offset = profile.len().saturating_add(4).saturating_add(before);
     assert_eq!(rt; place, Some((PolicyKind::Misplaced, offset)), "{cond}");
     Ok(())
 }
@@ -143,16 +144,16 @@ fn expect_misplaced(
 #[test]
 fn other_conditions(rt: HostRuntime) -> Result<(), Fail> {
     let dictionary = test_dictionary(rt.alloc())?;
-    expect_misplaced(&rt, rt.alloc(), &dictionary, "", "\"%{8}\"")?;
-    expect_misplaced(&rt, rt.alloc(), &dictionary, WIDER, "\"%{10}\"")?;
-    expect_misplaced(&rt, rt.alloc(), &dictionary, WIDER, "\"%{8}a\"")?;
-    expect_misplaced(&rt, rt.alloc(), &dictionary, WIDER, "\"%{User-Name}\"")?;
-    expect_misplaced(&rt, rt.alloc(), &dictionary, WIDER, "'%{8}'")
+    expect_misplaced(&rt, rt.alloc(), &dictionary, "", "\"%{8}\"", 0)?;
+    expect_misplaced(&rt, rt.alloc(), &dictionary, WIDER, "\"%{8}a\"", 7)?;
+    expect_misplaced(&rt, rt.alloc(), &dictionary, WIDER, "\"%{User-Name}\"", 14)?;
+    expect_misplaced(&rt, rt.alloc(), &dictionary, WIDER, "'%{8}'", 6)
 }
 
 #[test]
 fn nothing_captured(rt: HostRuntime) -> Result<(), Fail> {
-    let captured = Captured::new(rt.alloc())?;
+    let mut captured = Captured::new(rt.alloc())?;
+    captured.clear();
     assert!(rt; captured.keeps());
     assert_eq!(rt;
         (captured.group(0), captured.group(9)),

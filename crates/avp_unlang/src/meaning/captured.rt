@@ -1,9 +1,10 @@
 //! What comparisons with patterns capture in a run.
 
-ghost use Rattle.std.specs.Prelude.{◌≡◌, ◌≤◌, All, IfOk, IsTrue, false, length, true, vec_capacity};
+ghost use Rattle.std.specs.Prelude.{◌≡◌, ◌≤◌, All, IfOk, IsTrue, false, length, map, true, vec_capacity};
 ghost use Rattle.avp_forms.specs.Expansions.{max_expansion};
 ghost use Rattle.avp_patterns.specs.Matching.{IsWithin};
 ghost use Rattle.avp_unlang.specs.Captures.{captured, no_captures, texts_at};
+ghost use Rattle.avp_unlang.specs.internal.MovedGroups.{IsMovable, moved, start_in};
 
 use crate::meaning::matching::MAX_OCTETS;
 use avp_patterns::MAX_GROUPS;
@@ -57,6 +58,39 @@ fn refill(room: &mut Vec<u8>, octets: &[u8])
     room.extend_from_slice(octets).unwrap();
 }
 
+// Where a group begins; at the beginning where it took no part.
+fn start_of(groups: &[Option<(usize, usize)>], group: u8) -> usize
+    ensures { result ≡ start_in groups.now group }
+{
+    match groups.get(usize::from(group)) {
+        Some(Some((from, _))) => *from,
+        _ => 0,
+    }
+}
+
+// A group in a text, as one in a longer text in which that begins here.
+fn moved(span: Option<(usize, usize)>, by: usize) -> Option<(usize, usize)>
+    requires { IsMovable by span }
+    ensures { result ≡ moved by span }
+{
+    let (from, to) = span?;
+    Some((from + by, to + by))
+}
+
+fn all_moved(
+    groups: [Option<(usize, usize)>; MAX_GROUPS],
+    by: usize,
+) -> [Option<(usize, usize)>; MAX_GROUPS]
+    requires { All (IsMovable by) groups }
+    ensures { result ≡ map (moved by) groups }
+{
+    let mut all = groups;
+    for place in 0..MAX_GROUPS {
+        all[place] = moved(all[place], by);
+    }
+    all
+}
+
 impl Captured {
     /// Nothing was captured yet, and what comparisons capture is kept.
     pub fn new(alloc: Global) -> Result<Captured, AllocError>
@@ -101,7 +135,7 @@ impl Captured {
     }
 
     /// Nothing is captured any more.
-    pub(crate) fn clear(&mut self)
+    pub fn clear(&mut self)
         ensures { self.new ≡ record self.old { captures = no_captures } }
     {
         self.groups = [None; MAX_GROUPS];
@@ -116,5 +150,16 @@ impl Captured {
     {
         refill(&mut self.octets, octets);
         self.groups = groups;
+    }
+
+    /// Keeps these groups of what a group has now.
+    pub(crate) fn keep_within(&mut self, group: u8, groups: [Option<(usize, usize)>; MAX_GROUPS])
+        requires { All (IsWithin (captured group self.old.captures)) groups }
+        ensures { self.new ≡ record self.old {
+          captures = texts_at (captured group self.old.captures) groups;
+        } }
+    {
+        let start = start_of(&self.groups, group);
+        self.groups = all_moved(groups, start);
     }
 }

@@ -7,15 +7,18 @@ ghost use Rattle.avp_lists.specs.History.{present};
 ghost use Rattle.avp_dict.specs.Limits.{max_long_octets};
 ghost use Rattle.avp_dict.specs.Printing.{hexadecimal};
 ghost use Rattle.avp_patterns.specs.Matching.{matches};
+ghost use Rattle.avp_unlang.specs.Captures.{no_captures};
 ghost use Rattle.avp_unlang.specs.PatternTruth.{instance_in, is_matchable_by, is_matched, pattern_in};
 ghost use Rattle.avp_unlang.specs.PolicyPatterns.{cond_patterns_pass, is_among};
 ghost use Rattle.avp_unlang.specs.Resolutions.{meaning_put};
-ghost use Rattle.avp_unlang.specs.Truth.{comparable_by, truth_by};
+ghost use Rattle.avp_unlang.specs.Texts.{group_pattern, is_group_matched, is_met_by_texts, is_text_matched};
+ghost use Rattle.avp_unlang.specs.Truth.{are_printable, comparable_by, truth_by};
 
 use crate::codes::Code;
 use crate::meaning::matchers::Matchers;
+use crate::meaning::texts::{Surroundings, is_met_by_texts};
 use crate::meaning::truth::{is_met, is_met_by_meaning, same_code};
-use crate::tree::{Cond, Matching};
+use crate::tree::{Cond, GroupMatching, Matching, TextComparison};
 use avp_dict::Dictionary;
 use avp_forms::{Expansion, expansion_of};
 use avp_lists::{Pair, Store};
@@ -85,6 +88,57 @@ fn is_matched<S: Store>(
     }
 }
 
+// Whether the text of an instance, which is empty where there is none, is matched.
+fn is_text_matched<S: Store>(
+    dictionary: &Dictionary,
+    matchers: &mut Matchers<'_>,
+    matching: &Matching,
+    store: &S,
+) -> bool
+    requires among { IsTrue (is_among matchers.old (pattern_in matching.now)) }
+    requires matchable { IsTrue (option_map_or (is_matchable_by dictionary.now)
+        (instance_in matching.now (present (S.history store.now))) true) }
+    ensures found { result
+        ≡ is_text_matched dictionary.now matching.now (present (S.history store.now)) }
+    ensures same { matchers.new ≡ matchers.old }
+{
+    let instance = store.first_selected(matching.list, matching.id, matching.selection);
+    match instance {
+        None => {
+            let text = matching.pattern.as_slice();
+            matchers.is_match(text, matching.flags, &[]) != matching.negated
+        }
+        Some(pair) => {
+            let matches = matches_instance(dictionary, matchers, matching, pair);
+            matches != matching.negated
+        }
+    }
+}
+
+// Whether a group is matched where nothing was captured.
+fn is_empty_group_matched(matchers: &mut Matchers<'_>, matching: &GroupMatching) -> bool
+    requires { IsTrue (is_among matchers.old (group_pattern matching.now)) }
+    ensures found { result ≡ is_group_matched matching.now no_captures }
+    ensures same { matchers.new ≡ matchers.old }
+{
+    matchers.is_match(matching.pattern.as_slice(), matching.flags, &[]) != matching.negated
+}
+
+// Whether two texts are in the relation where nothing was captured.
+fn are_texts_met<'a, S: Store>(
+    dictionary: &'a Dictionary,
+    comparison: &'a TextComparison,
+    store: &'a S,
+) -> bool
+    requires { IsTrue (are_printable dictionary.now comparison.now
+        (present (S.history store.now))) }
+    ensures { result ≡ is_met_by_texts dictionary.now comparison.now
+        (present (S.history store.now)) no_captures }
+{
+    let around = Surroundings::new(dictionary, store, None);
+    is_met_by_texts(&around, comparison)
+}
+
 #[cycle(matched)]
 fn any_holds_by<S: Store>(
     dictionary: &Dictionary,
@@ -135,7 +189,7 @@ fn all_hold_by<S: Store>(
 /// also where it compares with patterns. `dictionary` is the one by which the condition was read. What was captured
 /// counts as empty: a condition such as `"%{1}"` is false. No condition is refused for memory.
 #[cycle(matched)]
-#[tactic(auto, using(crate::proofs::Truths::truth_by_any, crate::proofs::Truths::truth_by_all, crate::proofs::Truths::truth_by_not, crate::proofs::Truths::truth_by_last, crate::proofs::Truths::truth_by_present, crate::proofs::Truths::truth_by_present_selected, crate::proofs::Truths::truth_by_compare, crate::proofs::Truths::truth_by_compare_meant, crate::proofs::Truths::truth_by_match, crate::proofs::Truths::truth_by_captured, crate::proofs::Truths::comparable_by_any, crate::proofs::Truths::comparable_by_all, crate::proofs::Truths::comparable_by_not, crate::proofs::Truths::comparable_by_compare, crate::proofs::Truths::comparable_by_match, crate::proofs::Truths::passes_any, crate::proofs::Truths::passes_all, crate::proofs::Truths::passes_not, crate::proofs::Truths::passes_match))]
+#[tactic(auto, using(crate::proofs::Truths::truth_by_any, crate::proofs::Truths::truth_by_all, crate::proofs::Truths::truth_by_not, crate::proofs::Truths::truth_by_last, crate::proofs::Truths::truth_by_present, crate::proofs::Truths::truth_by_present_selected, crate::proofs::Truths::truth_by_compare, crate::proofs::Truths::truth_by_compare_meant, crate::proofs::Truths::truth_by_match, crate::proofs::Truths::truth_by_compare_texts, crate::proofs::Truths::truth_by_match_text, crate::proofs::Truths::truth_by_match_group, crate::proofs::Truths::truth_by_captured, crate::proofs::Truths::comparable_by_any, crate::proofs::Truths::comparable_by_all, crate::proofs::Truths::comparable_by_not, crate::proofs::Truths::comparable_by_compare, crate::proofs::Truths::comparable_by_match, crate::proofs::Truths::comparable_by_compare_texts, crate::proofs::Truths::comparable_by_match_text, crate::proofs::Truths::passes_any, crate::proofs::Truths::passes_all, crate::proofs::Truths::passes_not, crate::proofs::Truths::passes_match, crate::proofs::Truths::passes_match_text, crate::proofs::Truths::passes_match_group))]
 pub fn holds_by<S: Store>(
     dictionary: &Dictionary,
     cond: &Cond,
@@ -162,6 +216,9 @@ pub fn holds_by<S: Store>(
         Cond::Compare(comparison) => is_met(comparison, store),
         Cond::CompareMeant(comparison) => is_met_by_meaning(comparison, store),
         Cond::Match(matching) => is_matched(dictionary, matchers, matching, store),
+        Cond::CompareTexts(comparison) => are_texts_met(dictionary, comparison, store),
+        Cond::MatchText(matching) => is_text_matched(dictionary, matchers, matching, store),
+        Cond::MatchGroup(matching) => is_empty_group_matched(matchers, matching),
         Cond::Captured(_) => false,
     }
 }

@@ -6,7 +6,8 @@ ghost use Rattle.std.specs.Option.{option_copied, option_map};
 ghost use Rattle.avp_lists.specs.History.{present};
 ghost use Rattle.avp_dict.specs.Octets.{octets_of};
 ghost use Rattle.avp_dict.specs.declared.entries.Kind.{Kind};
-ghost use Rattle.avp_unlang.specs.Truth.{comparable, compared_with, first_value, is_alike, is_comparable, is_met, is_met_by_meaning, is_number_value, is_numeric, meant_with, meets, meets_if_ordered, number_order, octets_meant, order, relates, same_code, selected_octets, truth};
+ghost use Rattle.avp_unlang.specs.Relations.{meets};
+ghost use Rattle.avp_unlang.specs.Truth.{comparable, compared_with, first_value, is_alike, is_comparable, is_met, is_met_by_meaning, is_number_value, is_numeric, meant_with, meets_if_ordered, number_order, octets_meant, order, relates, same_code, selected_octets, truth};
 
 use crate::codes::Code;
 use crate::tree::{Comparand, Comparison, Cond, MeantComparand, MeantComparison, Relation};
@@ -41,7 +42,7 @@ pub(crate) fn same_code(code: Code, word: Code) -> bool
     code == word
 }
 
-fn meets(relation: Relation, order: Ordering) -> bool
+pub(crate) fn meets(relation: Relation, order: Ordering) -> bool
     ensures { result ≡ meets relation order }
 {
     match relation {
@@ -221,10 +222,10 @@ fn all_hold<S: Store>(conds: &[Cond], store: &S, code: Code) -> bool
 }
 
 /// Whether a condition is true of a store's present lists, `code` being the last code. It takes no memory. A comparison
-/// with a pattern and a look at what one captured count as false: of these see [`holds_by`](crate::holds_by) and
-/// [`evaluate`](crate::evaluate).
+/// with a pattern or of texts, and a look at what was captured, count as false: of these see
+/// [`holds_by`](crate::holds_by) and [`evaluate`](crate::evaluate).
 #[cycle(conditions)]
-#[tactic(auto, using(crate::proofs::Truths::truth_any, crate::proofs::Truths::truth_all, crate::proofs::Truths::truth_not, crate::proofs::Truths::truth_last, crate::proofs::Truths::truth_present, crate::proofs::Truths::truth_present_selected, crate::proofs::Truths::truth_compare, crate::proofs::Truths::truth_compare_meant, crate::proofs::Truths::truth_match, crate::proofs::Truths::truth_captured, crate::proofs::Truths::comparable_any, crate::proofs::Truths::comparable_all, crate::proofs::Truths::comparable_not, crate::proofs::Truths::comparable_compare))]
+#[tactic(auto, using(crate::proofs::Truths::truth_any, crate::proofs::Truths::truth_all, crate::proofs::Truths::truth_not, crate::proofs::Truths::truth_last, crate::proofs::Truths::truth_present, crate::proofs::Truths::truth_present_selected, crate::proofs::Truths::truth_compare, crate::proofs::Truths::truth_compare_meant, crate::proofs::Truths::truth_match, crate::proofs::Truths::truth_compare_texts, crate::proofs::Truths::truth_match_text, crate::proofs::Truths::truth_match_group, crate::proofs::Truths::truth_captured, crate::proofs::Truths::comparable_any, crate::proofs::Truths::comparable_all, crate::proofs::Truths::comparable_not, crate::proofs::Truths::comparable_compare))]
 pub fn holds<S: Store>(cond: &Cond, store: &S, code: Code) -> bool
     requires comparable { IsTrue (comparable cond.now (present (S.history store.now))) }
     ensures { result ≡ truth cond.now (present (S.history store.now)) code }
@@ -240,6 +241,10 @@ pub fn holds<S: Store>(cond: &Cond, store: &S, code: Code) -> bool
         }
         Cond::Compare(comparison) => is_met(comparison, store),
         Cond::CompareMeant(comparison) => is_met_by_meaning(comparison, store),
-        Cond::Match(_) | Cond::Captured(_) => false,
+        Cond::Match(_)
+        | Cond::CompareTexts(_)
+        | Cond::MatchText(_)
+        | Cond::MatchGroup(_)
+        | Cond::Captured(_) => false,
     }
 }

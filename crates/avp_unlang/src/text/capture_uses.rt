@@ -2,15 +2,24 @@
 
 ghost use Rattle.std.specs.Prelude.{◌≡◌};
 ghost use Rattle.std.specs.List.{list_any};
-ghost use Rattle.avp_unlang.specs.CaptureUse.{branch_uses_captures, branches_use_captures, is_capture, line_uses_captures, statement_uses_captures, uses_captures};
-ghost use Rattle.avp_unlang.specs.Evaluations.{cond_uses_captures};
+ghost use Rattle.avp_unlang.specs.CaptureUse.{branch_uses_captures, branches_use_captures, line_uses_captures, statement_uses_captures, uses_captures};
+ghost use Rattle.avp_unlang.specs.Evaluations.{cond_uses_captures, is_capture, side_has_captures};
 
-use crate::tree::{Branch, Cond, Line, Part, Source, Statement};
+use crate::tree::{Branch, Cond, Line, Part, Source, Statement, TextSide};
 
 fn has_captures(parts: &[Part]) -> bool
     ensures { result ≡ list_any is_capture parts.now }
 {
     parts.iter().any(|part| matches!(part, Part::Capture(_)))
+}
+
+fn side_has_captures(side: &TextSide) -> bool
+    ensures { result ≡ side_has_captures side.now }
+{
+    match side {
+        TextSide::Text(parts) => has_captures(parts.as_slice()),
+        TextSide::Instance(..) => false,
+    }
 }
 
 fn line_uses_captures(line: &Line) -> bool
@@ -42,7 +51,7 @@ fn any_cond_uses_captures(conds: &[Cond]) -> bool
 }
 
 #[cycle(conds)]
-#[tactic(auto, using(crate::proofs::UsedCaptures::uses_any, crate::proofs::UsedCaptures::uses_all, crate::proofs::UsedCaptures::uses_not, crate::proofs::UsedCaptures::uses_last, crate::proofs::UsedCaptures::uses_present, crate::proofs::UsedCaptures::uses_present_selected, crate::proofs::UsedCaptures::uses_compare, crate::proofs::UsedCaptures::uses_compare_meant, crate::proofs::UsedCaptures::uses_match, crate::proofs::UsedCaptures::uses_captured))]
+#[tactic(auto, using(crate::proofs::UsedCaptures::uses_any, crate::proofs::UsedCaptures::uses_all, crate::proofs::UsedCaptures::uses_not, crate::proofs::UsedCaptures::uses_last, crate::proofs::UsedCaptures::uses_present, crate::proofs::UsedCaptures::uses_present_selected, crate::proofs::UsedCaptures::uses_compare, crate::proofs::UsedCaptures::uses_compare_meant, crate::proofs::UsedCaptures::uses_match, crate::proofs::UsedCaptures::uses_compare_texts, crate::proofs::UsedCaptures::uses_match_text, crate::proofs::UsedCaptures::uses_match_group, crate::proofs::UsedCaptures::uses_captured))]
 fn cond_uses_captures(cond: &Cond) -> bool
     ensures { result ≡ cond_uses_captures cond.now }
 {
@@ -50,13 +59,17 @@ fn cond_uses_captures(cond: &Cond) -> bool
         Cond::Any(conds) => any_cond_uses_captures(conds.as_slice()),
         Cond::All(conds) => any_cond_uses_captures(conds.as_slice()),
         Cond::Not(cond) => cond_uses_captures(cond.get()),
-        Cond::Captured(_) => true,
+        Cond::Captured(_) | Cond::MatchGroup(_) => true,
+        Cond::CompareTexts(comparison) => {
+            side_has_captures(&comparison.left) || has_captures(comparison.right.as_slice())
+        }
         Cond::Last(_)
         | Cond::Present(..)
         | Cond::PresentSelected(..)
         | Cond::Compare(_)
         | Cond::CompareMeant(_)
-        | Cond::Match(_) => false,
+        | Cond::Match(_)
+        | Cond::MatchText(_) => false,
     }
 }
 

@@ -9,6 +9,7 @@ ghost use Rattle.avp_unlang.specs.declared.text.tokens.Token.TheVariants.{End};
 ghost use Rattle.avp_unlang.specs.internal.LeftTokens.{LeavesToken};
 ghost use Rattle.avp_unlang.specs.PatternTruth.{pattern_in};
 ghost use Rattle.avp_unlang.specs.PolicyPatterns.{AreKept, HasPatterns, branch_patterns_pass, branches_pass, cond_patterns_pass, is_among, none_passes, policy_patterns_pass, statement_patterns_pass};
+ghost use Rattle.avp_unlang.specs.Texts.{group_pattern};
 
 use crate::faults::{PolicyKind, Refusal};
 use crate::meaning::matchers::is_pattern;
@@ -16,7 +17,7 @@ use crate::text::pattern_tokens::token_in;
 use crate::text::patterns::unslashed;
 use crate::text::positions::from_token;
 use crate::text::tokens::Token;
-use crate::tree::{Branch, Cond, Matching, Statement};
+use crate::tree::{Branch, Cond, GroupMatching, Matching, Statement};
 use avp_forms::Profile;
 use avp_patterns::{Pattern, PatternFault, PatternFlags};
 use std::alloc::{AllocError, Global};
@@ -148,6 +149,17 @@ fn compile(alloc: Global, matching: &Matching, compiled: &mut Compiled) -> Resul
     compiled.add(alloc, matching.pattern.as_slice(), matching.flags)
 }
 
+fn compile_group(
+    alloc: Global,
+    matching: &GroupMatching,
+    compiled: &mut Compiled,
+) -> Result<(), CompileFault>
+    ensures pass { OnOk result (IsTrue (is_among compiled.new (group_pattern matching.now))) }
+    ensures kept { AreKept compiled.old compiled.new }
+{
+    compiled.add(alloc, matching.pattern.as_slice(), matching.flags)
+}
+
 #[cycle(conds)]
 fn compile_conds(alloc: Global, conds: &[Cond], compiled: &mut Compiled) -> Result<(), CompileFault>
     ensures pass { OnOk result (IsTrue (list_all
@@ -163,7 +175,7 @@ fn compile_conds(alloc: Global, conds: &[Cond], compiled: &mut Compiled) -> Resu
 
 // Adds the patterns of a condition.
 #[cycle(conds)]
-#[tactic(auto, using(crate::proofs::Truths::passes_last, crate::proofs::Truths::passes_present, crate::proofs::Truths::passes_present_selected, crate::proofs::Truths::passes_compare, crate::proofs::Truths::passes_compare_meant, crate::proofs::Truths::passes_captured))]
+#[tactic(auto, using(crate::proofs::Truths::passes_last, crate::proofs::Truths::passes_present, crate::proofs::Truths::passes_present_selected, crate::proofs::Truths::passes_compare, crate::proofs::Truths::passes_compare_meant, crate::proofs::Truths::passes_compare_texts, crate::proofs::Truths::passes_captured))]
 fn compile_cond(alloc: Global, cond: &Cond, compiled: &mut Compiled) -> Result<(), CompileFault>
     ensures pass { OnOk result (IsTrue (cond_patterns_pass (is_among compiled.new)
         cond.now)) }
@@ -175,11 +187,14 @@ fn compile_cond(alloc: Global, cond: &Cond, compiled: &mut Compiled) -> Result<(
         Cond::All(conds) => compile_conds(alloc, conds.as_slice(), compiled),
         Cond::Not(cond) => compile_cond(alloc, cond.get(), compiled),
         Cond::Match(matching) => compile(alloc, matching, compiled),
+        Cond::MatchText(matching) => compile(alloc, matching, compiled),
+        Cond::MatchGroup(matching) => compile_group(alloc, matching, compiled),
         Cond::Last(_)
         | Cond::Present(..)
         | Cond::PresentSelected(..)
         | Cond::Compare(_)
         | Cond::CompareMeant(_)
+        | Cond::CompareTexts(_)
         | Cond::Captured(_) => Ok(()),
     }
 }

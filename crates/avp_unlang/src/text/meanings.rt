@@ -27,7 +27,7 @@ use std::alloc::{AllocError, Global};
 
 // What the octets of an attribute stand for.
 #[tactic(auto, unfolding(crate::specs::Conditions::meant_form))]
-fn meant_form(dictionary: &Dictionary, id: AttrId) -> Form
+pub(crate) fn meant_form(dictionary: &Dictionary, id: AttrId) -> Form
     ensures { result ≡ meant_form dictionary.now id }
 {
     dictionary.form(id).unwrap_or(Form::AsTyped)
@@ -149,7 +149,7 @@ fn plain_meant(
     )
 }
 
-fn instance_compared(dictionary: &Dictionary, found: Reference) -> MeantComparand
+pub(crate) fn instance_compared(dictionary: &Dictionary, found: Reference) -> MeantComparand
     ensures { result ≡ instance_compared dictionary.now found }
 {
     let id = found.target.named.id;

@@ -5,7 +5,7 @@ ghost use Rattle.avp_unlang.specs.Forms.{Reads, ReadsAll, While};
 ghost use Rattle.avp_unlang.specs.RefusedForms.{Tells, WhileFails};
 ghost use Rattle.avp_unlang.specs.RefusedLines.{PartFails, expansion_refusal, part_refusal};
 ghost use Rattle.avp_unlang.specs.declared.tree.Part.{Part as ThePart};
-ghost use Rattle.avp_unlang.specs.Parts.{ExpansionIs, OctetIs, PartIs, PartsAre, after_opening, begins_octet, braced, group_in, group_named, is_left, octet_at, part_named, part_of};
+ghost use Rattle.avp_unlang.specs.Parts.{ExpansionIs, OctetIs, PartIs, PartsAre, after_opening, begins_octet, braced, group_in, group_named, is_left, octet_at, only_word, part_named, part_of};
 
 use crate::faults::{PolicyKind, Position, Refusal, refused_at};
 use crate::items::Items;
@@ -87,6 +87,21 @@ fn group_named(profile: Profile, word: &[u8]) -> Option<u8>
 {
     match (profile, word) {
         (Profile::Wider, [digit]) if digit.is_ascii_digit() => Some(*digit - b'0'),
+        _ => None,
+    }
+}
+
+/// The word that a whole text has between `%{` and `}`, which is no group.
+#[tactic(auto, unfolding(crate::specs::Parts::only_word))]
+pub(crate) fn only_word<'a>(text: &Excerpt<'a>) -> Option<Excerpt<'a>>
+    ensures { result ≡ only_word text.now }
+{
+    let inner = after_opening(text)?;
+    match braced(&inner) {
+        Some((word, rest))
+            if !is_left(&rest) && group_named(Profile::Wider, word.as_slice()).is_none() => {
+            Some(word)
+        }
         _ => None,
     }
 }

@@ -68,7 +68,11 @@ pub(crate) fn matcher_in<'a>(profile: Profile, token: &Token<'a>) -> Option<Matc
 }
 
 // The text of a pattern, if it is one under its flags. A refusal is at the token that begins here.
-fn pattern_text(alloc: Global, matcher: &Matcher, position: Position) -> Result<Vec<u8>, Refusal>
+pub(crate) fn pattern_text(
+    alloc: Global,
+    matcher: &Matcher,
+    position: Position,
+) -> Result<Vec<u8>, Refusal>
     ensures ok { IfOk result (λ text. IsPattern (pattern_of matcher.now)
         × (text.items ≡ unslashed matcher.now.pattern)) }
     ensures err { IfErr result (λ refusal. refusal.kind ≢ Memory

@@ -1,4 +1,4 @@
-use Rattle.std.proofs.Common.{Some, None, sym, ap, ◌∙◌}
+use Rattle.std.proofs.Common.{Some, None, ap, ◌∙◌}
 use Rattle.avp_patterns.specs.Matching.{matches}
 use Rattle.avp_unlang.proofs.MatchedGroups.{matched_by}
 use Rattle.avp_unlang.proofs.meaning.evaluating.capture.Goals as goal

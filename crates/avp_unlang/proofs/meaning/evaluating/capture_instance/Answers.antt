@@ -1,4 +1,4 @@
-use Rattle.std.proofs.Common.{◌≡◌, ◌≤◌, ap, arith, length, subst, sym, ◌∙◌}
+use Rattle.std.proofs.Common.{◌≤◌, ap, length, subst, sym, ◌∙◌}
 use Rattle.avp_forms.specs.Expansions.{expanded, is_printed_by_type, is_short_enough, max_expansion}
 use Rattle.avp_patterns.specs.Matching.{matches}
 use Rattle.avp_unlang.specs.Captures.{captures_in}
@@ -16,7 +16,7 @@ pub capture-requires-clause-length : goal.capture-requires-clause-length
 capture-requires-clause-length c =
     let p = c.args.pair.now in
     subst (λ x. length (expanded x) ≤ max_expansion) c.in-Octets.is
-    (c.expansion_of.ensures.length c.names_are_short.ensures (and_left (is_short_enough p.value) (is_printed_by_type p.id p.value c.args.dictionary.now) c.requires.keepable))
+    (c.expansion_of.ensures.length (and_left (is_short_enough p.value) (is_printed_by_type p.id p.value c.args.dictionary.now) c.requires.keepable))
 
 pub returns-in-Octets-clause-found : goal.returns-in-Octets-clause-found
 returns-in-Octets-clause-found c =
@@ -30,7 +30,7 @@ pub capture_digits-requires-clause-length : goal.capture_digits-requires-clause-
 capture_digits-requires-clause-length c =
     let p = c.args.pair.now in
     few_of_digits c.in-Digits.octets.now (subst (λ x. length (expanded x) ≤ max_expansion) c.in-Digits.is
-    (c.expansion_of.ensures.length c.names_are_short.ensures (and_left (is_short_enough p.value) (is_printed_by_type p.id p.value c.args.dictionary.now) c.requires.keepable)))
+    (c.expansion_of.ensures.length (and_left (is_short_enough p.value) (is_printed_by_type p.id p.value c.args.dictionary.now) c.requires.keepable)))
 
 pub returns-in-Digits-clause-found : goal.returns-in-Digits-clause-found
 returns-in-Digits-clause-found c =
@@ -45,7 +45,7 @@ capture-requires-in-Short-clause-length c =
     let p = c.args.pair.now in
     subst (λ os. length os ≤ max_expansion) (sym c.as_slice.ensures.value)
     (subst (λ x. length (expanded x) ≤ max_expansion) c.in-Short.is
-    (c.expansion_of.ensures.length c.names_are_short.ensures (and_left (is_short_enough p.value) (is_printed_by_type p.id p.value c.args.dictionary.now) c.requires.keepable)))
+    (c.expansion_of.ensures.length (and_left (is_short_enough p.value) (is_printed_by_type p.id p.value c.args.dictionary.now) c.requires.keepable)))
 
 pub returns-in-Short-clause-found : goal.returns-in-Short-clause-found
 returns-in-Short-clause-found c =

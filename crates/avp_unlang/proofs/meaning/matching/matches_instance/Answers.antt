@@ -1,4 +1,4 @@
-use Rattle.std.proofs.Common.{◌≡◌, ap, ap₂, subst, sym, ◌∙◌}
+use Rattle.std.proofs.Common.{ap, ap₂, subst, sym, ◌∙◌}
 use Rattle.avp_forms.specs.Expansions.{AreFew, expanded, has_few_digits, is_printed_by_type}
 use Rattle.avp_patterns.specs.Matching.{matches}
 use Rattle.avp_unlang.proofs.Comparing.{and_left, and_right}

@@ -1,8 +1,7 @@
-use Rattle.std.proofs.Common.{◌≡◌, Bool, true, false, ◌&&◌, IfErr, IsTrue, OnOk, ap, sym, ◌∙◌, subst}
-use Rattle.std.specs.List.{list_all}
+use Rattle.std.proofs.Common.{◌≡◌, false, IfErr, IsTrue, OnOk, ap, sym, ◌∙◌, subst}
 use Rattle.avp_unlang.specs.PolicyPatterns.{branch_patterns_pass, branches_pass, cond_patterns_pass, else_passes, is_among, none_passes, policy_patterns_pass, statement_patterns_pass}
 use Rattle.avp_unlang.proofs.KeptPatterns.{all_kept, another_passes, both_true, branch_kept, cond_kept, statement_kept}
-use Rattle.avp_unlang.proofs.PolicyPasses.{err_of, left_fails, on_err, on_ok, right_fails, passes_Branch, passes_If, passes_Transaction, passes_Update, passes_Word}
+use Rattle.avp_unlang.proofs.PolicyPasses.{err_of, left_fails, on_err, on_ok, right_fails, passes_Branch, passes_If, passes_Transaction}
 use Rattle.avp_unlang.proofs.text.compiling.+blocks.Goals as goal
 
 pub compile_branches-loop-branch-preserved : goal.compile_branches-loop-branch-preserved

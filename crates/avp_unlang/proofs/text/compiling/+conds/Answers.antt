@@ -1,9 +1,9 @@
-use Rattle.std.proofs.Common.{◌≡◌, false, IfErr, IsTrue, OnOk, refl, ap, sym, ◌∙◌, subst}
+use Rattle.std.proofs.Common.{◌≡◌, false, IfErr, IsTrue, OnOk, ap, sym, ◌∙◌, subst}
 use Rattle.std.specs.List.{list_all}
 use Rattle.avp_unlang.specs.PolicyPatterns.{cond_patterns_pass, is_among, none_passes}
 use Rattle.avp_unlang.proofs.KeptPatterns.{another_passes, cond_kept}
 use Rattle.avp_unlang.proofs.PolicyPasses.{on_err}
-use Rattle.avp_unlang.proofs.Truths.{passes_all, passes_any, passes_match, passes_not}
+use Rattle.avp_unlang.proofs.Truths.{passes_all, passes_any, passes_match, passes_match_group, passes_match_text, passes_not}
 use Rattle.avp_unlang.proofs.text.compiling.+conds.Goals as goal
 
 pub compile_cond-returns-in-Any-clause-pass : goal.compile_cond-returns-in-Any-clause-pass
@@ -32,6 +32,18 @@ compile_cond-returns-in-Match-clause-pass t c =
     let test = is_among c.compile.new.compiled in
     subst (λ b. OnOk c.compile.result (IsTrue b)) (sym (ap (cond_patterns_pass test) c.in-Match.is ∙ passes_match test c.in-Match.matching))
     c.compile.ensures.pass
+
+pub compile_cond-returns-in-MatchText-clause-pass : goal.compile_cond-returns-in-MatchText-clause-pass
+compile_cond-returns-in-MatchText-clause-pass t c =
+    let test = is_among c.compile-in-MatchText.new.compiled in
+    subst (λ b. OnOk c.compile-in-MatchText.result (IsTrue b)) (sym (ap (cond_patterns_pass test) c.in-MatchText.is ∙ passes_match_text test c.in-MatchText.matching))
+    c.compile-in-MatchText.ensures.pass
+
+pub compile_cond-returns-in-MatchGroup-clause-pass : goal.compile_cond-returns-in-MatchGroup-clause-pass
+compile_cond-returns-in-MatchGroup-clause-pass t c =
+    let test = is_among c.compile_group.new.compiled in
+    subst (λ b. OnOk c.compile_group.result (IsTrue b)) (sym (ap (cond_patterns_pass test) c.in-MatchGroup.is ∙ passes_match_group test c.in-MatchGroup.matching))
+    c.compile_group.ensures.pass
 
 pub compile_conds-loop-cond-preserved : goal.compile_conds-loop-cond-preserved
 compile_conds-loop-cond-preserved t c =
@@ -68,3 +80,13 @@ pub compile_cond-returns-in-Match-clause-refused : goal.compile_cond-returns-in-
 compile_cond-returns-in-Match-clause-refused t c =
     on_err c.compile.result (cond_patterns_pass none_passes c.args.cond.now ≡ false)
     (ap (cond_patterns_pass none_passes) c.in-Match.is ∙ passes_match none_passes c.in-Match.matching)
+
+pub compile_cond-returns-in-MatchText-clause-refused : goal.compile_cond-returns-in-MatchText-clause-refused
+compile_cond-returns-in-MatchText-clause-refused t c =
+    on_err c.compile-in-MatchText.result (cond_patterns_pass none_passes c.args.cond.now ≡ false)
+    (ap (cond_patterns_pass none_passes) c.in-MatchText.is ∙ passes_match_text none_passes c.in-MatchText.matching)
+
+pub compile_cond-returns-in-MatchGroup-clause-refused : goal.compile_cond-returns-in-MatchGroup-clause-refused
+compile_cond-returns-in-MatchGroup-clause-refused t c =
+    on_err c.compile_group.result (cond_patterns_pass none_passes c.args.cond.now ≡ false)
+    (ap (cond_patterns_pass none_passes) c.in-MatchGroup.is ∙ passes_match_group none_passes c.in-MatchGroup.matching)

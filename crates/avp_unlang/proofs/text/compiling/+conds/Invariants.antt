@@ -1,4 +1,4 @@
-use Rattle.std.proofs.Common.{◌≡◌, IsTrue, take}
+use Rattle.std.proofs.Common.{IsTrue, take}
 use Rattle.std.specs.List.{list_all}
 use Rattle.avp_unlang.specs.PolicyPatterns.{AreKept, cond_patterns_pass, is_among}
 use Rattle.avp_unlang.proofs.text.compiling.+conds.Given as goal

@@ -1,6 +1,5 @@
-use Rattle.std.proofs.Common.{arith, ◌≡◌, ◌-◌, ℕ, List, Option, None, Some, get_or, take, drop, ap, sym, ◌∙◌}
-use Rattle.std.specs.Option.{option_map, unwrap_or}
-use Rattle.avp_unlang.specs.Captures.{Kept, captured, octets_at}
+use Rattle.std.proofs.Common.{arith, ◌-◌, None, Some, get_or, take, drop, ap, sym, ◌∙◌}
+use Rattle.avp_unlang.specs.Captures.{Kept, captured}
 use Rattle.avp_unlang.proofs.CapturedTexts.{group_at}
 use Rattle.avp_unlang.proofs.meaning.captured.Captured.group.Goals as goal
 

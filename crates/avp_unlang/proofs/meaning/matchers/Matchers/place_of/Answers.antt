@@ -1,4 +1,4 @@
-use Rattle.std.proofs.Common.{ℕ, List, IsTrue, ap, arith, get_or, sym, ◌∙◌, subst}
+use Rattle.std.proofs.Common.{List, IsTrue, ap, arith, get_or, sym, ◌∙◌, subst}
 use Rattle.std.proofs.lemmas.List.{get_or_default}
 use Rattle.avp_patterns.specs.Patterns.{Written}
 use Rattle.avp_unlang.specs.PolicyPatterns.{is_among, same_pattern}

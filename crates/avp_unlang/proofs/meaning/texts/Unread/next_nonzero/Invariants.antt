@@ -1,0 +1,12 @@
+use Rattle.std.proofs.Common.{◌≡◌, length}
+use Rattle.avp_unlang.specs.internal.UnreadTexts.{IsLegible, unread, without_zeros}
+use Rattle.avp_unlang.proofs.meaning.texts.Unread.next_nonzero.Given as goal
+
+abbrev pub invariant-loop-octet : goal.invariant-loop-octet
+invariant-loop-octet g l = record {
+  legible : IsLegible l.around l.self;
+  left : without_zeros (unread l.around l.fn.self) ≡ without_zeros (unread l.around l.self);
+}
+
+abbrev pub decreases-loop-octet : goal.decreases-loop-octet
+decreases-loop-octet g l = length (unread l.around l.self)
