@@ -194,7 +194,7 @@ module _ (d : Dictionary) where
   statements_same (x ∷ xs) h o k l =
       one_more x xs (statement_same x (or_left (statement_uses_captures x) (uses_captures xs) h)) (statements_same xs (or_right (statement_uses_captures x) (uses_captures xs) h)) o k l
 
-  -- the trace of a policy, where what is captured is kept only if the policy looks at it
-  pub kept_trace : (ss : List Statement) (s : State) (keeps : Bool) → keeps ≡ uses_captures ss → trace_by d (evaluating_of keeps d) ss s ≡ trace_of d ss s
-  kept_trace ss s true is = refl
-  kept_trace ss s false is = ap (λ (es : List Entry). start s ∷ es) (statements_same ss (sym is) (running s code.Ok) no_captures no_captures)
+  -- the trace of a policy, where what is captured is kept at least if the policy looks at it
+  pub kept_trace : (ss : List Statement) (s : State) (keeps : Bool) → (keeps ≡ false → uses_captures ss ≡ false) → trace_by d (evaluating_of keeps d) ss s ≡ trace_of d ss s
+  kept_trace ss s true free = refl
+  kept_trace ss s false free = ap (λ (es : List Entry). start s ∷ es) (statements_same ss (free refl) (running s code.Ok) no_captures no_captures)

@@ -57,12 +57,12 @@ module _ (last : Mark) (m m1 : Course) where
 abbrev pub START : Mark
 START = record { label = label.Start; code = code.Ok; stopped = false }
 
-steps_end : (d : Dictionary) (keeps : Bool) (ss : List Statement) (s : State) → keeps ≡ uses_captures ss → (end_of (first_point s) (block_steps d (evaluating_of keeps d) ss (first_point s) ++ [])).outcome ≡ meaning_of d ss s code.Ok
-steps_end d keeps ss s uses =
+steps_end : (d : Dictionary) (keeps : Bool) (ss : List Statement) (s : State) → (keeps ≡ false → uses_captures ss ≡ false) → (end_of (first_point s) (block_steps d (evaluating_of keeps d) ss (first_point s) ++ [])).outcome ≡ meaning_of d ss s code.Ok
+steps_end d keeps ss s free =
     let steps = block_steps d (evaluating_of keeps d) ss (first_point s) in
     ap (λ ts. (end_of (first_point s) ts).outcome) (append-nil steps)
     ∙ sym (last_of_steps (first_point s) steps)
-    ∙ ap (last_of nowhere) (kept_trace d ss s keeps uses)
+    ∙ ap (last_of nowhere) (kept_trace d ss s keeps free)
     ∙ trace_end d ss s nowhere
 
 module _ (d : Dictionary) (ps : List Written) (keeps : Bool) (ss : Bor (List Statement)) (h : History) (m : Course) (reach : ℕ)
@@ -79,5 +79,5 @@ module _ (d : Dictionary) (ps : List Written) (keeps : Bool) (ss : Bor (List Sta
       })
 
   -- and ends where the policy means
-  pub start_ending : keeps ≡ uses_captures ss.now → ending START m ≡ meaning_of d ss.now (present h) code.Ok
-  start_ending uses = ap (ending START) is ∙ steps_end d keeps ss.now (present h) uses
+  pub start_ending : (keeps ≡ false → uses_captures ss.now ≡ false) → ending START m ≡ meaning_of d ss.now (present h) code.Ok
+  start_ending free = ap (ending START) is ∙ steps_end d keeps ss.now (present h) free

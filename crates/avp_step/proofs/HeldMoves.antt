@@ -248,8 +248,8 @@ module _ (ss : List Statement) (m : Course) (ms : List Mark) (p : ℕ) (r : ℕ)
 -- a stepper at its start
 pub start_held : (d : Dictionary) (ps : List Written) (keeps : Bool) (ss : Bor (List Statement)) (h : History) (m : Course) (ms none : List Mark) (r size reach : ℕ)
     → m ≡ record { dictionary = d; patterns = ps; keeps = keeps; captures = no_captures; history = settled h; reach = reach; frames = Statements ss ∷ [] }
-    → keeps ≡ uses_captures ss.now → none ≡ [] → ms ≡ none ++ (record { label = label.Start; code = code.Ok; stopped = false }) ∷ [] → size ≡ size_of ss.now → size ≤ m.reach → size + 1 ≤ r → IsHeld ss.now m ms 0 r
-start_held d ps keeps ss h m ms none r size reach is uses no_marks marks count room marks_room =
+    → (keeps ≡ false → uses_captures ss.now ≡ false) → none ≡ [] → ms ≡ none ++ (record { label = label.Start; code = code.Ok; stopped = false }) ∷ [] → size ≡ size_of ss.now → size ≤ m.reach → size + 1 ≤ r → IsHeld ss.now m ms 0 r
+start_held d ps keeps ss h m ms none r size reach is free no_marks marks count room marks_room =
     let n : Mark = record { label = label.Start; code = code.Ok; stopped = false } in
     let marks' = marks ∙ ap (λ l. l ++ n ∷ []) no_marks in
     let bound = trace_size d (evaluated d) ss.now (present h) in
@@ -257,7 +257,7 @@ start_held d ps keeps ss h m ms none r size reach is uses no_marks marks count r
     subst (λ l. IsHeld ss.now m l 0 r) (sym marks') (subst (λ c. IsHeld ss.now c (n ∷ []) 0 r) (sym is) (record {
       trace =
           ap (λ es. start (present h) ∷ map entry_in es) (append-nil (block_steps d (evaluating_of keeps d) ss.now (first_point (present h))))
-          ∙ kept_trace d ss.now (present h) keeps uses;
+          ∙ kept_trace d ss.now (present h) keeps free;
       each = refl;
       place = refl;
       within = omega arith;

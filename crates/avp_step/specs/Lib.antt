@@ -1,3 +1,4 @@
+pub mod Searches
 pub mod Trace
 pub mod Walk
 pub mod internal

@@ -1,6 +1,6 @@
 //! A store, and what is still to run over it.
 
-ghost use Rattle.std.specs.Prelude.{◌≡◌, ◌+◌, ◌-◌, ◌<◌, ◌≤◌, ◌∷◌, [], false, length, IfErr, IfNone, IfOk, IfSome, IsTrue, OnErr, OnOk, Ok, None};
+ghost use Rattle.std.specs.Prelude.{◌≡◌, ◌+◌, ◌-◌, ◌<◌, ◌≤◌, ◌∷◌, ◌||◌, [], false, length, IfErr, IfNone, IfOk, IfSome, IsTrue, OnErr, OnOk, Ok, None};
 ghost use Rattle.avp_lists.specs.History.{at_place, present, settled, state_at};
 ghost use Rattle.avp_unlang.specs.Meaning.{stops};
 ghost use Rattle.avp_unlang.specs.PolicyPatterns.{cond_patterns_pass, is_among, policy_patterns_pass};
@@ -16,6 +16,7 @@ use crate::frames::{Frame, MAX_FRAMES};
 use crate::labels::Label;
 use crate::lines::{edit_by, reason_number};
 use crate::marks::Mark;
+use crate::searches::Searches;
 use avp_dict::Dictionary;
 use avp_lists::Store;
 use avp_unlang::{
@@ -30,7 +31,7 @@ pub struct Machine<'a, 'p, S: Store> {
     dictionary: &'a Dictionary,
     // Those of the patterns that conditions compare with.
     matchers: Matchers<'p>,
-    // What was captured last, kept if the policy looks at it.
+    // What was captured last, kept at least if the policy looks at it.
     captured: Captured,
     store: S,
     // The innermost part of what is still to run is the last.
@@ -77,37 +78,27 @@ fn stops(code: Code) -> bool
     }
 }
 
-// Nothing captured, with room for what is, if it is kept.
-fn captured_of(alloc: Global, keeps: bool) -> Result<Captured, AllocError>
-    ensures { IfOk result (λ c. c ≡ record { keeps = keeps; captures = no_captures }) }
-{
-    if keeps {
-        Captured::new(alloc)
-    } else {
-        Ok(Captured::none(alloc))
-    }
-}
-
 impl<'a, 'p, S: Store> Machine<'a, 'p, S> {
     /// A machine that has these statements to run from the present lists of the store, with room for so many steps, and
-    /// for what their patterns capture if it is kept. A refusal gives the store back.
+    /// for what their patterns capture if it is to be kept. A refusal gives the store back.
     pub fn new(
         alloc: Global,
         dictionary: &'a Dictionary,
         statements: &'a [Statement],
-        matchers: Matchers<'p>,
+        searches: Searches<'p>,
         keeps: bool,
         mut store: S,
         size: usize,
     ) -> Result<Machine<'a, 'p, S>, (S, AllocError)>
         requires deep { depth_of statements.now + 1 ≤ MAX_FRAMES }
         requires suits { IsTrue (policy_suits dictionary.now statements.now) }
-        requires passes { IsTrue (policy_patterns_pass (is_among matchers) statements.now) }
+        requires passes { IsTrue (policy_patterns_pass (is_among searches.patterns)
+            statements.now) }
         requires store { StateFits dictionary.now (present (S.history store)) }
         ensures start { IfOk result (λ m. m ≡ record {
           dictionary = dictionary.entry.now;
-          patterns = matchers.entry;
-          keeps = keeps;
+          patterns = searches.entry.patterns;
+          keeps = searches.entry.has_room || keeps;
           captures = no_captures;
           history = settled (S.history store);
           reach = m.reach;
@@ -119,7 +110,7 @@ impl<'a, 'p, S: Store> Machine<'a, 'p, S> {
         let Ok(mut frames) = Vec::with_capacity(alloc, MAX_FRAMES) else {
             return Err((store, AllocError));
         };
-        let Ok(captured) = captured_of(alloc, keeps) else {
+        let Ok((matchers, captured)) = searches.into_parts(alloc, keeps) else {
             return Err((store, AllocError));
         };
         match store.reserve(size) {
@@ -163,21 +154,22 @@ impl<'a, 'p, S: Store> Machine<'a, 'p, S> {
         store
     }
 
-    /// The store, and what searched for the patterns.
-    pub fn into_parts(self) -> (S, Matchers<'p>)
+    /// The store, and what the run searched with.
+    pub fn into_parts(self) -> (S, Searches<'p>)
         ensures history { S.history result.0 ≡ self.entry.history }
         ensures fits { StateFits self.entry.dictionary (present self.entry.history) }
-        ensures patterns { result.1 ≡ self.entry.patterns }
+        ensures searches { result.1
+            ≡ record { patterns = self.entry.patterns; has_room = self.entry.keeps } }
     {
         let Machine {
             alloc: _,
             dictionary: _,
             matchers,
-            captured: _,
+            captured,
             store,
             frames: _,
         } = self;
-        (store, matchers)
+        (store, Searches::of_parts(matchers, captured))
     }
 
     // The place of the store.

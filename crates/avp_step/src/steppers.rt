@@ -12,9 +12,10 @@ ghost use Rattle.avp_step.specs.Walk.{IsBeforeNewLine, IsHeldUp, IsHeldUpWith, I
 use crate::labels::{Label, Move, Moved};
 use crate::machines::Machine;
 use crate::marks::{Mark, START};
+use crate::searches::Searches;
 use avp_dict::Dictionary;
 use avp_lists::Store;
-use avp_unlang::{Code, Matchers, Policy, Statement, size};
+use avp_unlang::{Code, Policy, Statement, size};
 use std::alloc::{AllocError, Global};
 use std::marker::Model;
 
@@ -64,11 +65,11 @@ fn put_mark(marks: &mut Vec<Mark>, mark: Mark)
 }
 
 // What searches for the patterns of a policy.
-fn matchers_of(alloc: Global, policy: &Policy) -> Result<Matchers<'_>, AllocError>
-    ensures { IfOk result (λ matchers.
-        IsTrue (policy_patterns_pass (is_among matchers) policy.entry.now)) }
+fn searches_of(alloc: Global, policy: &Policy) -> Result<Searches<'_>, AllocError>
+    ensures { IfOk result (λ searches.
+        IsTrue (policy_patterns_pass (is_among searches.patterns) policy.entry.now)) }
 {
-    Matchers::new(alloc, policy.patterns())
+    Searches::new(alloc, policy.patterns())
 }
 
 impl<'a, S: Store> Stepper<'a, S> {
@@ -108,12 +109,12 @@ impl<'a, S: Store> Stepper<'a, S> {
         let Ok(mut marks) = Vec::with_capacity(alloc, size + 1) else {
             return Err((store, AllocError));
         };
-        let matchers = match matchers_of(alloc, policy) {
-            Ok(matchers) => matchers,
+        let searches = match searches_of(alloc, policy) {
+            Ok(searches) => searches,
             Err(refused) => return Err((store, refused)),
         };
         let keeps = policy.uses_captures();
-        let machine = Machine::new(alloc, dictionary, statements, matchers, keeps, store, size)?;
+        let machine = Machine::new(alloc, dictionary, statements, searches, keeps, store, size)?;
         put_mark(&mut marks, START);
         Ok(Stepper {
             statements,

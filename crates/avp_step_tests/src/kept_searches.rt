@@ -7,8 +7,8 @@ ghost use Rattle.avp_unlang.specs.Suiting.{IsSpelled};
 use crate::captures::message_in;
 use crate::patterns::LINES;
 use avp_dict::Dictionary;
-use avp_step::{Ended, run_with};
-use avp_unlang::{Matchers, Policy, read_policy};
+use avp_step::{Ended, Searches, run_with};
+use avp_unlang::{Policy, read_policy};
 use avp_unlang_tests::store_of;
 use samples::read_dictionary;
 use std::alloc::Global;
@@ -21,19 +21,19 @@ fn expect_message<'p>(
     alloc: Global,
     dictionary: &Dictionary,
     policy: &Policy,
-    matchers: Matchers<'p>,
+    searches: Searches<'p>,
     lines: &[u8],
     message: &[u8],
-) -> Result<Matchers<'p>, Fail>
+) -> Result<Searches<'p>, Fail>
     requires policy { IsSpelled dictionary.now policy.now }
-    requires passes { IsTrue (policy_patterns_pass (is_among matchers) policy.now) }
-    ensures { IfOk result (λ kept. kept ≡ matchers.entry) }
+    requires passes { IsTrue (policy_patterns_pass (is_among searches.patterns) policy.now) }
+    ensures { IfOk result (λ kept. kept.patterns ≡ searches.entry.patterns) }
 {
     let store = store_of(alloc, dictionary, lines)?;
-    let ended = run_with(alloc, dictionary, policy, matchers, store)?;
+    let ended = run_with(alloc, dictionary, policy, searches, store)?;
     assert_eq!(rt; message_in(&ended.store), message);
-    let Ended { matchers, .. } = ended;
-    Ok(matchers)
+    let Ended { searches, .. } = ended;
+    Ok(searches)
 }
 
 const POLICY: &[u8] = b"# profile: wider
@@ -54,7 +54,7 @@ fn captures_anew_in_each_run(rt: HostRuntime) -> Result<(), Fail> {
     let alloc = rt.alloc();
     let dictionary = read_dictionary(alloc, LINES)?;
     let policy = read_policy(alloc, &dictionary, POLICY)?;
-    let first = Matchers::new(alloc, policy.patterns())?;
+    let first = Searches::new(alloc, policy.patterns())?;
     let bob = b"User-Name = \"Bob@example.org\"";
     let second = expect_message(&rt, alloc, &dictionary, &policy, first, bob, b"[B]")?;
     let third = expect_message(&rt, alloc, &dictionary, &policy, second, b"", b"[]")?;

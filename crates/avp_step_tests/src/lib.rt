@@ -12,4 +12,6 @@ mod printed_values;
 #[cfg(test)]
 mod runs;
 #[cfg(test)]
+mod texts;
+#[cfg(test)]
 mod tunnels;

@@ -2,8 +2,8 @@
 
 use avp_dict::Dictionary;
 use avp_lists::{List, SlotStore, Store};
-use avp_step::{Label, Move, Moved, Stepper, run, run_with};
-use avp_unlang::{Code, Matchers, read_policy};
+use avp_step::{Label, Move, Moved, Searches, Stepper, run, run_with};
+use avp_unlang::{Code, read_policy};
 use samples::test_dictionary;
 use std::alloc::Global;
 use std::process::Abort;
@@ -72,15 +72,15 @@ fn runs(rt: &impl Abort, alloc: Global, dictionary: &Dictionary) -> Result<(), F
 }
 
 // Example: run_with
-fn runs_with_matchers(rt: &impl Abort, alloc: Global, dictionary: &Dictionary) -> Result<(), Fail> {
+fn runs_with_searches(rt: &impl Abort, alloc: Global, dictionary: &Dictionary) -> Result<(), Fail> {
     let policy = read_policy(
         alloc,
         dictionary,
         b"update reply { Session-Timeout := 600 }",
     )?;
     let store = SlotStore::new(alloc, Vec::new(alloc), Vec::new(alloc), Vec::new(alloc))?;
-    let matchers = Matchers::new(alloc, policy.patterns())?;
-    let ended = run_with(alloc, dictionary, &policy, matchers, store)?;
+    let searches = Searches::new(alloc, policy.patterns())?;
+    let ended = run_with(alloc, dictionary, &policy, searches, store)?;
     assert_eq!(rt; (ended.code, ended.stopped), (Code::Ok, false));
     Ok(())
 }
@@ -96,7 +96,7 @@ fn walk<S: Store>(rt: &impl Abort, stepper: &mut Stepper<S>) -> Result<(), Fail>
 fn step_and_run(rt: &impl Abort, alloc: Global, dictionary: &Dictionary) -> Result<(), Fail> {
     begins(rt, alloc, dictionary)?;
     runs(rt, alloc, dictionary)?;
-    runs_with_matchers(rt, alloc, dictionary)?;
+    runs_with_searches(rt, alloc, dictionary)?;
     let text = b"update reply { Session-Timeout := 600 }\nreject";
     let policy = read_policy(alloc, dictionary, text)?;
     let store = SlotStore::new(alloc, Vec::new(alloc), Vec::new(alloc), Vec::new(alloc))?;

@@ -1,5 +1,6 @@
-use Rattle.std.proofs.Common.{◌≡◌, arith, ap, sym, ◌∙◌}
+use Rattle.std.proofs.Common.{◌≡◌, ◌||◌, false, arith, ap, sym, ◌∙◌}
 use Rattle.avp_lists.specs.History.{present, state_at}
+use Rattle.avp_unlang.proofs.CaptureFree.{or_right}
 use Rattle.avp_unlang.proofs.StatementDepths.{spelled_depth}
 use Rattle.avp_unlang.proofs.SpelledSuits.{spelled_policy_suits}
 use Rattle.avp_unlang.specs.internal.Depth.{depth_of}
@@ -30,12 +31,13 @@ new-requires-clause-suits g c =
 
 pub new-requires-clause-passes : goal.new-requires-clause-passes
 new-requires-clause-passes g c =
-    ap (policy_patterns_pass (is_among c.in-Ok-matchers_of.matchers)) (c.as_slice-statements.ensures ∙ c.statements.ensures) ∙ c.in-Ok-matchers_of.ensures
+    ap (policy_patterns_pass (is_among c.in-Ok-searches_of.searches.patterns)) (c.as_slice-statements.ensures ∙ c.statements.ensures) ∙ c.in-Ok-searches_of.ensures
 
 pub invariant_of-result : goal.invariant_of-result
 invariant_of-result g c =
     let same : c.as_slice-statements.result.now ≡ c.args.policy.now = c.as_slice-statements.ensures ∙ c.statements.ensures in
-    start_held _ _ _ c.as_slice-statements.result (g.S.Store.history c.args.store) _ _ _ _ c.size-size.result _ c.in_ok-machine.ensures.start (c.uses_captures-keeps.ensures ∙ ap uses_captures (sym same)) c.in-Ok.ensures.items c.put_mark.ensures.items (c.size-size.ensures.count ∙ ap size_of (sym same)) c.in_ok-machine.ensures.room (omega (arith, c.in-Ok.ensures.capacity, c.put_mark.ensures.capacity))
+    let unused = λ (off : (c.in-Ok-searches_of.searches.has_room || c.uses_captures-keeps.result) ≡ false). sym (c.uses_captures-keeps.ensures ∙ ap uses_captures (sym same)) ∙ or_right c.in-Ok-searches_of.searches.has_room c.uses_captures-keeps.result off in
+    start_held _ _ _ c.as_slice-statements.result (g.S.Store.history c.args.store) _ _ _ _ c.size-size.result _ c.in_ok-machine.ensures.start unused c.in-Ok.ensures.items c.put_mark.ensures.items (c.size-size.ensures.count ∙ ap size_of (sym same)) c.in_ok-machine.ensures.room (omega (arith, c.in-Ok.ensures.capacity, c.put_mark.ensures.capacity))
 
 pub returns-clause-last : goal.returns-clause-last
 returns-clause-last g c =
