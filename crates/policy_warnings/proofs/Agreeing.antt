@@ -1,5 +1,6 @@
 -- Where a condition overlooks no absence, it is true where a server says so.
 use Rattle.std.proofs.Common.{◌≡◌, ℕ, Bool, true, false, not, ◌&&◌, ◌||◌, List, [], ◌∷◌, ◌++◌, Option, Some, None, refl, sym, ap, ◌∙◌, map, subst, append_assoc, append-nil, filter, is_some, cond}
+use Rattle.std.specs.declared.cmp.Ordering.{Ordering}
 use Rattle.std.specs.List.{list_all, list_any}
 use Rattle.std.specs.Option.{option_and_then, option_map, option_map_or}
 use Rattle.avp_lists.specs.Instances.{first_instance, front, has_id, has_instance}
@@ -17,7 +18,11 @@ use Rattle.avp_dict.specs.declared.entries.Kind.{Kind}
 use Rattle.avp_dict.specs.declared.forms.Form.{Form}
 use Rattle.avp_unlang.specs.PatternTruth.{agrees as agrees_with_pattern, instance_in, is_matched}
 use Rattle.avp_unlang.specs.Resolutions.{meaning_put}
-use Rattle.avp_unlang.specs.Truth.{Test, are_related, are_related_by_meaning, compared_with, cond_truth_with, first_value, is_met, is_met_by_meaning, meant_with, never_matched, octets_meant, selected_octets, same_code, selected_value, truth, truth_by, value_in}
+use Rattle.avp_unlang.specs.Captures.{Captures, no_captures}
+use Rattle.avp_unlang.specs.References.{type_of}
+use Rattle.avp_unlang.specs.Relations.{meets}
+use Rattle.avp_unlang.specs.Texts.{filled_text, is_met_by_texts, octets_order, order_beside, own_octets, text_beside}
+use Rattle.avp_unlang.specs.Truth.{Test, are_related, are_related_by_meaning, compared_with, Printed, cond_truth_with, first_value, is_met, is_met_by_meaning, meant_with, nothing_printed, octets_meant, printed_by, selected_octets, same_code, selected_value, truth, truth_by, value_in}
 use Rattle.avp_unlang.specs.declared.codes.Code.{Code}
 use Rattle.avp_unlang.specs.declared.tree.Comparand.{Comparand}
 use Rattle.avp_unlang.specs.declared.tree.Comparand.TheVariants as comparand
@@ -27,13 +32,16 @@ use Rattle.avp_unlang.specs.declared.tree.MeantComparand.{MeantComparand}
 use Rattle.avp_unlang.specs.declared.tree.MeantComparand.TheVariants as meant
 use Rattle.avp_unlang.specs.declared.tree.MeantComparison.{MeantComparison}
 use Rattle.avp_unlang.specs.declared.tree.Relation.{Relation}
+use Rattle.avp_unlang.specs.declared.tree.TextComparison.{TextComparison}
+use Rattle.avp_unlang.specs.declared.tree.TextSide.{TextSide}
+use Rattle.avp_unlang.specs.declared.tree.TextSide.TheVariants as side
 use Rattle.avp_unlang.specs.declared.tree.Cond.{Cond}
 use Rattle.avp_unlang.specs.declared.tree.Cond.TheFolds.{fold-Cond, fold-roll-Cond, ind-Cond, map-Cond}
-use Rattle.avp_unlang.specs.declared.tree.Cond.TheOpen.{Cond-F, Any, All, Not, Last, Present, PresentSelected, Compare, CompareMeant, Match, Captured}
+use Rattle.avp_unlang.specs.declared.tree.Cond.TheOpen.{Cond-F, Any, All, Not, Last, Present, PresentSelected, Compare, CompareMeant, CompareTexts, Match, MatchText, MatchGroup, Captured}
 use Rattle.avp_unlang.specs.declared.tree.Cond.TheViews.{roll-Cond}
 use Rattle.policy_warnings.specs.Absences.{all_of, always, asked, any_of, both, cond_absence, either, negated, said_of, silent, warns_of_absence}
 use Rattle.policy_warnings.specs.Answers.{Answer, Asked, answer_all, answer_any, answer_both, answer_either, cond_answer_with, is_true, server_answer, server_answer_by, server_truth, server_truth_by}
-use Rattle.policy_warnings.specs.Mentions.{all_parts, comparand_mentions, comparison_mentions, cond_mentions, implies, is_there, matching_mentions, meant_comparand_mentions, meant_comparison_mentions, mentions, selected, whole}
+use Rattle.policy_warnings.specs.Mentions.{all_parts, comparand_mentions, comparison_mentions, cond_mentions, implies, is_there, matching_mentions, meant_comparand_mentions, meant_comparison_mentions, mentions, selected, side_mentions, whole}
 use Rattle.policy_warnings.specs.declared.absences.Absence.{Absence}
 use Rattle.policy_warnings.specs.declared.mentions.Mention.{Mention}
 use Rattle.policy_warnings.proofs.Answered.{and_right, and_true, any_mono, not_implied, overlooked_when, present_when}
@@ -109,7 +117,7 @@ meant_there k s h =
 abbrev pub LooksAtItsOwn : (Matching → State → Bool) → Type 0
 LooksAtItsOwn matched = (k : Matching) (s : State) → matched k s ≡ true → is_there s (selected k.list k.id k.selection) ≡ true
 
-pub never_looks : LooksAtItsOwn never_matched
+pub never_looks : LooksAtItsOwn nothing_printed.matched
 never_looks k s h = cc
 
 instance_there : (k : Matching) (d : Dictionary) (x : Option Pair) → option_map_or (λ pair. agrees_with_pattern k (meaning_put d pair)) x false ≡ true → is_some x ≡ true
@@ -121,6 +129,26 @@ matched_looks d k s h = found_first (is_selected k.selection k.id) (list_of k.li
 
 pub matching_there : (matched : Matching → State → Bool) → LooksAtItsOwn matched → (k : Matching) (s : State) → matched k s ≡ true → list_all (is_there s) (matching_mentions k) ≡ true
 matching_there matched looks k s h = and_true (is_there s (selected k.list k.id k.selection)) true (looks k s h) refl
+
+-- of a comparison of texts: an instance that is met is there
+abbrev pub LooksAtItsSide : (TextComparison → State → Bool) → Type 0
+LooksAtItsSide texts = (k : TextComparison) (s : State) → texts k s ≡ true → list_all (is_there s) (side_mentions k.left) ≡ true
+
+never_looks_at_side : LooksAtItsSide nothing_printed.texts
+never_looks_at_side k s h = cc
+
+octets_there : (f : Ordering → Bool) (g : Pair → Option (List ℕ)) (x : Option Pair) (beside : Option (List ℕ)) → option_map_or f (octets_order (option_and_then g x) beside) false ≡ true → is_some x ≡ true
+octets_there f g None beside h = h
+octets_there f g (Some x) beside h = refl
+
+side_there : (d : Dictionary) (s : State) (captures : Captures) (relation : Relation) (left : TextSide) (text : List ℕ) → option_map_or (meets relation) (order_beside d s captures left text) false ≡ true → list_all (is_there s) (side_mentions left) ≡ true
+side_there d s captures relation (side.Text parts) text h = refl
+side_there d s captures relation (side.Instance list id selection) text h =
+    and_true (is_there s (selected list id selection)) true
+    (found_first (is_selected selection id) (list_of list s) ∙ octets_there (meets relation) (λ pair. own_octets pair.value) (first_selected_instance selection id (list_of list s)) (text_beside (type_of d id) text) h) refl
+
+pub texts_there : (d : Dictionary) (captures : Captures) → LooksAtItsSide (λ k s. is_met_by_texts d k s captures)
+texts_there d captures k s h = side_there d s captures k.relation k.left (filled_text d s captures k.right) h
 
 pub both_assoc : (a b d : Answer) → answer_both (answer_both a b) d ≡ answer_both a (answer_both b d)
 both_assoc None b d = refl
@@ -182,12 +210,12 @@ module _ (s : State) where
   agreeing say ms None true p h =
       sym (any_mono (misses s say true) (λ m. (say m).overlooked_when_true) (λ m k. and_right (not (is_there s m)) ((say m).overlooked_when_true) k) ms (p.2 refl)) ∙ h
 
-module _ (matched : Matching → State → Bool) (looks : LooksAtItsOwn matched) (s : State) (c : Code) where
+module _ (printed : Printed) (looks : LooksAtItsOwn printed.matched) (looks_at_side : LooksAtItsSide printed.texts) (s : State) (c : Code) where
   abbrev Answered : Cond → Asked
-  Answered = fold-Cond Asked (cond_answer_with matched)
+  Answered = fold-Cond Asked (cond_answer_with printed)
 
   abbrev Given : Cond → Test
-  Given = fold-Cond Test (cond_truth_with matched)
+  Given = fold-Cond Test (cond_truth_with printed)
 
   abbrev IsSound : Cond → Type 0
   IsSound k = Sound s (λ m. said_of m k) (mentions k) (Answered k s c) (Given k s c)
@@ -243,7 +271,7 @@ module _ (matched : Matching → State → Bool) (looks : LooksAtItsOwn matched)
   abbrev LayerSound : Cond-F Cond → Type 0
   LayerSound x =
       Sound s (λ m. cond_absence m (map-Cond Cond Absence (said_of m) x)) (cond_mentions (map-Cond Cond (List Mention) mentions x))
-      (cond_answer_with matched (map-Cond Cond Asked Answered x) s c) (cond_truth_with matched (map-Cond Cond Test Given x) s c)
+      (cond_answer_with printed (map-Cond Cond Asked Answered x) s c) (cond_truth_with printed (map-Cond Cond Test Given x) s c)
 
   layer_sound : (y : Cond-F Such) → LayerSound (layer y)
   layer_sound (Any parts) = any_sound parts (λ m. negated always) [] (Some false) false (sound_told s (λ m. negated always) false (λ m absent. refl))
@@ -259,7 +287,10 @@ module _ (matched : Matching → State → Bool) (looks : LooksAtItsOwn matched)
       (sound_told s (λ m. asked (implies (selected list id selection) m)) there (told_there s (selected list id selection) there refl))
   layer_sound (Compare k) = sound_compared s (comparison_mentions k) (is_met k s) (met_there k s)
   layer_sound (CompareMeant k) = sound_compared s (meant_comparison_mentions k) (is_met_by_meaning k s) (meant_there k s)
-  layer_sound (Match k) = sound_compared s (matching_mentions k) (matched k s) (matching_there matched looks k s)
+  layer_sound (CompareTexts k) = sound_compared s (side_mentions k.left) (printed.texts k s) (looks_at_side k s)
+  layer_sound (Match k) = sound_compared s (matching_mentions k) (printed.matched k s) (matching_there printed.matched looks k s)
+  layer_sound (MatchText k) = sound_told s (λ m. silent) (printed.text_matched k s) (silent_of s (printed.text_matched k s))
+  layer_sound (MatchGroup k) = sound_told s (λ m. silent) (printed.group_matched k) (silent_of s (printed.group_matched k))
   layer_sound (Captured group) = sound_told s (λ m. silent) false (silent_of s false)
 
   rolled : (x : Cond-F Cond) → LayerSound x → IsSound (roll-Cond x)
@@ -268,10 +299,10 @@ module _ (matched : Matching → State → Bool) (looks : LooksAtItsOwn matched)
       said_same s (λ m. cond_absence m (map-Cond Cond Absence (said_of m) x)) (λ m. said_of m (roll-Cond x)) (mentions (roll-Cond x)) (Answered (roll-Cond x) s c) (Given (roll-Cond x) s c)
       (λ m. sym (fold-roll-Cond Absence (cond_absence m) x))
       (sound_same s (λ m. cond_absence m (map-Cond Cond Absence (said_of m) x)) (cond_mentions (map-Cond Cond (List Mention) mentions x)) (mentions (roll-Cond x))
-      (cond_answer_with matched (map-Cond Cond Asked Answered x) s c) (Answered (roll-Cond x) s c) (cond_truth_with matched (map-Cond Cond Test Given x) s c) (Given (roll-Cond x) s c)
+      (cond_answer_with printed (map-Cond Cond Asked Answered x) s c) (Answered (roll-Cond x) s c) (cond_truth_with printed (map-Cond Cond Test Given x) s c) (Given (roll-Cond x) s c)
       (sym (fold-roll-Cond (List Mention) cond_mentions x))
-      (ap (λ (f : Asked). f s c) (sym (fold-roll-Cond Asked (cond_answer_with matched) x)))
-      (ap (λ (f : Test). f s c) (sym (fold-roll-Cond Test (cond_truth_with matched) x))) p)
+      (ap (λ (f : Asked). f s c) (sym (fold-roll-Cond Asked (cond_answer_with printed) x)))
+      (ap (λ (f : Test). f s c) (sym (fold-roll-Cond Test (cond_truth_with printed) x))) p)
 
   pub sound : (k : Cond) → IsSound k
   sound = ind-Cond IsSound (λ x y is. subst (λ z. IsSound (roll-Cond z)) is (rolled (layer y) (layer_sound y)))
@@ -282,8 +313,8 @@ module _ (matched : Matching → State → Bool) (looks : LooksAtItsOwn matched)
 -- without a warning both take the same branch
 pub agrees : (k : Cond) (s : State) (c : Code) → warns_of_absence k ≡ false → truth k s c ≡ server_truth k s c
 unfolding truth server_answer
-agrees k s c h = both_agree never_matched never_looks s c k h
+agrees k s c h = both_agree nothing_printed never_looks never_looks_at_side s c k h
 
 pub agrees_by : (d : Dictionary) (k : Cond) (s : State) (c : Code) → warns_of_absence k ≡ false → truth_by d k s c ≡ server_truth_by d k s c
 unfolding truth_by server_answer_by
-agrees_by d k s c h = both_agree (is_matched d) (matched_looks d) s c k h
+agrees_by d k s c h = both_agree (printed_by d) (matched_looks d) (texts_there d no_captures) s c k h

@@ -7,13 +7,15 @@ use Rattle.avp_lists.specs.declared.lists.List.{List as Name}
 use Rattle.avp_unlang.specs.declared.codes.Code.{Code}
 use Rattle.avp_unlang.specs.declared.tree.Comparison.{Comparison}
 use Rattle.avp_unlang.specs.declared.tree.Cond.{Cond}
+use Rattle.avp_unlang.specs.declared.tree.GroupMatching.{GroupMatching}
 use Rattle.avp_unlang.specs.declared.tree.Matching.{Matching}
 use Rattle.avp_unlang.specs.declared.tree.MeantComparison.{MeantComparison}
+use Rattle.avp_unlang.specs.declared.tree.TextComparison.{TextComparison}
 use Rattle.avp_unlang.specs.declared.tree.Cond.TheFolds.{fold-roll-Cond}
 use Rattle.avp_unlang.specs.declared.tree.Cond.TheOpen as layer
-use Rattle.avp_unlang.specs.declared.tree.Cond.TheVariants.{Any, All, Not, Last, Present, PresentSelected, Compare, CompareMeant, Match, Captured, rolls-Any, rolls-All, rolls-Not, rolls-Last, rolls-Present, rolls-PresentSelected, rolls-Compare, rolls-CompareMeant, rolls-Match, rolls-Captured}
+use Rattle.avp_unlang.specs.declared.tree.Cond.TheVariants.{Any, All, Not, Last, Present, PresentSelected, Compare, CompareMeant, CompareTexts, Match, MatchText, MatchGroup, Captured, rolls-Any, rolls-All, rolls-Not, rolls-Last, rolls-Present, rolls-PresentSelected, rolls-Compare, rolls-CompareMeant, rolls-CompareTexts, rolls-Match, rolls-MatchText, rolls-MatchGroup, rolls-Captured}
 use Rattle.policy_warnings.specs.Absences.{said_of, all_of, always, any_implies, any_of, asked, compared, cond_absence, negated, silent}
-use Rattle.policy_warnings.specs.Mentions.{comparison_mentions, cond_mentions, implies, matching_mentions, meant_comparison_mentions, mentions, selected, whole}
+use Rattle.policy_warnings.specs.Mentions.{comparison_mentions, cond_mentions, implies, matching_mentions, meant_comparison_mentions, mentions, selected, side_mentions, whole}
 use Rattle.policy_warnings.specs.declared.absences.Absence.{Absence}
 use Rattle.policy_warnings.specs.declared.mentions.Mention.{Mention}
 
@@ -58,6 +60,18 @@ pub mentions_match : (k : Matching) → mentions (Match k) ≡ matching_mentions
 unfolding mentions
 mentions_match k = ap mentions (sym (rolls-Match k)) ∙ fold-roll-Cond (List Mention) cond_mentions (layer.Match k)
 
+pub mentions_compare_texts : (k : TextComparison) → mentions (CompareTexts k) ≡ side_mentions k.left
+unfolding mentions
+mentions_compare_texts k = ap mentions (sym (rolls-CompareTexts k)) ∙ fold-roll-Cond (List Mention) cond_mentions (layer.CompareTexts k)
+
+pub mentions_match_text : (k : Matching) → mentions (MatchText k) ≡ []
+unfolding mentions
+mentions_match_text k = ap mentions (sym (rolls-MatchText k)) ∙ fold-roll-Cond (List Mention) cond_mentions (layer.MatchText k)
+
+pub mentions_match_group : (k : GroupMatching) → mentions (MatchGroup k) ≡ []
+unfolding mentions
+mentions_match_group k = ap mentions (sym (rolls-MatchGroup k)) ∙ fold-roll-Cond (List Mention) cond_mentions (layer.MatchGroup k)
+
 pub mentions_captured : (group : ℕ) → mentions (Captured group) ≡ []
 unfolding mentions
 mentions_captured group = ap mentions (sym (rolls-Captured group)) ∙ fold-roll-Cond (List Mention) cond_mentions (layer.Captured group)
@@ -99,6 +113,18 @@ module _ (m : Mention) where
   pub absence_match : (k : Matching) → said_of m (Match k) ≡ compared (any_implies (matching_mentions k) m)
   unfolding said_of
   absence_match k = ap (said_of m) (sym (rolls-Match k)) ∙ fold-roll-Cond Absence (cond_absence m) (layer.Match k)
+
+  pub absence_compare_texts : (k : TextComparison) → said_of m (CompareTexts k) ≡ compared (any_implies (side_mentions k.left) m)
+  unfolding said_of
+  absence_compare_texts k = ap (said_of m) (sym (rolls-CompareTexts k)) ∙ fold-roll-Cond Absence (cond_absence m) (layer.CompareTexts k)
+
+  pub absence_match_text : (k : Matching) → said_of m (MatchText k) ≡ silent
+  unfolding said_of
+  absence_match_text k = ap (said_of m) (sym (rolls-MatchText k)) ∙ fold-roll-Cond Absence (cond_absence m) (layer.MatchText k)
+
+  pub absence_match_group : (k : GroupMatching) → said_of m (MatchGroup k) ≡ silent
+  unfolding said_of
+  absence_match_group k = ap (said_of m) (sym (rolls-MatchGroup k)) ∙ fold-roll-Cond Absence (cond_absence m) (layer.MatchGroup k)
 
   pub absence_captured : (group : ℕ) → said_of m (Captured group) ≡ silent
   unfolding said_of

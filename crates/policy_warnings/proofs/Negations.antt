@@ -11,7 +11,7 @@ use Rattle.avp_lists.specs.declared.tags.Selection.{Selection}
 use Rattle.avp_lists.specs.Selections.{has_selected}
 use Rattle.avp_dict.specs.Dictionary.{Dictionary}
 use Rattle.avp_unlang.specs.PatternTruth.{is_matched}
-use Rattle.avp_unlang.specs.Truth.{is_met, never_matched, truth, truth_by}
+use Rattle.avp_unlang.specs.Truth.{is_met, nothing_printed, printed_by, truth, truth_by}
 use Rattle.avp_unlang.specs.declared.codes.Code.{Code}
 use Rattle.avp_unlang.specs.declared.tree.Comparison.{Comparison}
 use Rattle.avp_unlang.specs.declared.tree.Cond.{Cond}
@@ -31,11 +31,11 @@ use Rattle.policy_warnings.proofs.Layers.{absence_compare, absence_match, absenc
 
 answer_not : (d : Cond) (s : State) (c : Code) → server_answer (Not d) s c ≡ option_map not (server_answer d s c)
 unfolding server_answer
-answer_not d s c = ap (λ k. server_answer k s c) (sym (rolls-Not d)) ∙ ap (λ (f : Asked). f s c) (fold-roll-Cond Asked (cond_answer_with never_matched) (layer.Not d))
+answer_not d s c = ap (λ k. server_answer k s c) (sym (rolls-Not d)) ∙ ap (λ (f : Asked). f s c) (fold-roll-Cond Asked (cond_answer_with nothing_printed) (layer.Not d))
 
 answer_compare : (k : Comparison) (s : State) (c : Code) → server_answer (Compare k) s c ≡ answer_compared (comparison_mentions k) s (is_met k s)
 unfolding server_answer
-answer_compare k s c = ap (λ x. server_answer x s c) (sym (rolls-Compare k)) ∙ ap (λ (f : Asked). f s c) (fold-roll-Cond Asked (cond_answer_with never_matched) (layer.Compare k))
+answer_compare k s c = ap (λ x. server_answer x s c) (sym (rolls-Compare k)) ∙ ap (λ (f : Asked). f s c) (fold-roll-Cond Asked (cond_answer_with nothing_printed) (layer.Compare k))
 
 overlooks_implied : (k : Comparison) (m : Mention) → (said_of m (negated_comparison k)).overlooked_when_true ≡ any_implies (comparison_mentions k) m
 overlooks_implied k m = ap (λ (a : Absence). a.overlooked_when_true) (absence_not m (Compare k) ∙ ap negated (absence_compare m k))
@@ -65,12 +65,12 @@ differ k s c absent =
 answer_by_not : (dictionary : Dictionary) (d : Cond) (s : State) (c : Code) → server_answer_by dictionary (Not d) s c ≡ option_map not (server_answer_by dictionary d s c)
 unfolding server_answer_by
 answer_by_not dictionary d s c =
-    ap (λ k. server_answer_by dictionary k s c) (sym (rolls-Not d)) ∙ ap (λ (f : Asked). f s c) (fold-roll-Cond Asked (cond_answer_with (is_matched dictionary)) (layer.Not d))
+    ap (λ k. server_answer_by dictionary k s c) (sym (rolls-Not d)) ∙ ap (λ (f : Asked). f s c) (fold-roll-Cond Asked (cond_answer_with (printed_by dictionary)) (layer.Not d))
 
 answer_by_match : (dictionary : Dictionary) (k : Matching) (s : State) (c : Code) → server_answer_by dictionary (Match k) s c ≡ answer_compared (matching_mentions k) s (is_matched dictionary k s)
 unfolding server_answer_by
 answer_by_match dictionary k s c =
-    ap (λ x. server_answer_by dictionary x s c) (sym (rolls-Match k)) ∙ ap (λ (f : Asked). f s c) (fold-roll-Cond Asked (cond_answer_with (is_matched dictionary)) (layer.Match k))
+    ap (λ x. server_answer_by dictionary x s c) (sym (rolls-Match k)) ∙ ap (λ (f : Asked). f s c) (fold-roll-Cond Asked (cond_answer_with (printed_by dictionary)) (layer.Match k))
 
 pub matching_warned : (k : Matching) → warns_of_absence (negated_matching k) ≡ true
 matching_warned k =

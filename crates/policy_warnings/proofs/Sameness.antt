@@ -9,10 +9,12 @@ use Rattle.avp_unlang.specs.declared.tree.Cond.{Cond}
 use Rattle.avp_unlang.specs.declared.tree.Cond.TheFolds.{fold-roll-Cond, map-Cond}
 use Rattle.avp_unlang.specs.declared.tree.Cond.TheOpen.{Cond-F}
 use Rattle.avp_unlang.specs.declared.tree.Cond.TheOpen as layer
-use Rattle.avp_unlang.specs.declared.tree.Cond.TheVariants.{Any, All, Not, Last, Present, PresentSelected, Compare, CompareMeant, Match, Captured, rolls-Any, rolls-All, rolls-Not, rolls-Last, rolls-Present, rolls-PresentSelected, rolls-Compare, rolls-CompareMeant, rolls-Match, rolls-Captured}
+use Rattle.avp_unlang.specs.declared.tree.Cond.TheVariants.{Any, All, Not, Last, Present, PresentSelected, Compare, CompareMeant, CompareTexts, Match, MatchText, MatchGroup, Captured, rolls-Any, rolls-All, rolls-Not, rolls-Last, rolls-Present, rolls-PresentSelected, rolls-Compare, rolls-CompareMeant, rolls-CompareTexts, rolls-Match, rolls-MatchText, rolls-MatchGroup, rolls-Captured}
 use Rattle.avp_unlang.specs.declared.tree.Cond.TheViews.{out-Cond, out-roll-Cond, roll-Cond, roll-out-Cond}
+use Rattle.avp_unlang.specs.declared.tree.GroupMatching.{GroupMatching}
 use Rattle.avp_unlang.specs.declared.tree.Matching.{Matching}
 use Rattle.avp_unlang.specs.declared.tree.MeantComparison.{MeantComparison}
+use Rattle.avp_unlang.specs.declared.tree.TextComparison.{TextComparison}
 use Rattle.policy_warnings.specs.Repeats.{all_same, same_as, same_cond, same_layer}
 
 -- ---- a condition and any other
@@ -68,6 +70,9 @@ module _ (k other : Cond) where
   other_than_Any a never (layer.Compare b) e = refl
   other_than_Any a never (layer.CompareMeant b) e = refl
   other_than_Any a never (layer.Match b) e = refl
+  other_than_Any a never (layer.CompareTexts b) e = refl
+  other_than_Any a never (layer.MatchText b) e = refl
+  other_than_Any a never (layer.MatchGroup b) e = refl
   other_than_Any a never (layer.Captured b) e = refl
 
   pub no_Any : (a : List Cond) → k ≡ Any a → ((b : List Cond) → other ≡ Any b → ⊥) → false ≡ same_cond k other
@@ -83,6 +88,9 @@ module _ (k other : Cond) where
   other_than_All a never (layer.Compare b) e = refl
   other_than_All a never (layer.CompareMeant b) e = refl
   other_than_All a never (layer.Match b) e = refl
+  other_than_All a never (layer.CompareTexts b) e = refl
+  other_than_All a never (layer.MatchText b) e = refl
+  other_than_All a never (layer.MatchGroup b) e = refl
   other_than_All a never (layer.Captured b) e = refl
 
   pub no_All : (a : List Cond) → k ≡ All a → ((b : List Cond) → other ≡ All b → ⊥) → false ≡ same_cond k other
@@ -98,6 +106,9 @@ module _ (k other : Cond) where
   other_than_Not a never (layer.Compare b) e = refl
   other_than_Not a never (layer.CompareMeant b) e = refl
   other_than_Not a never (layer.Match b) e = refl
+  other_than_Not a never (layer.CompareTexts b) e = refl
+  other_than_Not a never (layer.MatchText b) e = refl
+  other_than_Not a never (layer.MatchGroup b) e = refl
   other_than_Not a never (layer.Captured b) e = refl
 
   pub no_Not : (a : Cond) → k ≡ Not a → ((b : Cond) → other ≡ Not b → ⊥) → false ≡ same_cond k other
@@ -113,6 +124,9 @@ module _ (k other : Cond) where
   other_than_Last a never (layer.Compare b) e = refl
   other_than_Last a never (layer.CompareMeant b) e = refl
   other_than_Last a never (layer.Match b) e = refl
+  other_than_Last a never (layer.CompareTexts b) e = refl
+  other_than_Last a never (layer.MatchText b) e = refl
+  other_than_Last a never (layer.MatchGroup b) e = refl
   other_than_Last a never (layer.Captured b) e = refl
 
   pub no_Last : (a : Code) → k ≡ Last a → ((b : Code) → other ≡ Last b → ⊥) → false ≡ same_cond k other
@@ -128,6 +142,9 @@ module _ (k other : Cond) where
   other_than_Present a n never (layer.Compare b) e = refl
   other_than_Present a n never (layer.CompareMeant b) e = refl
   other_than_Present a n never (layer.Match b) e = refl
+  other_than_Present a n never (layer.CompareTexts b) e = refl
+  other_than_Present a n never (layer.MatchText b) e = refl
+  other_than_Present a n never (layer.MatchGroup b) e = refl
   other_than_Present a n never (layer.Captured b) e = refl
 
   pub no_Present : (a : Name) (n : AttrId) → k ≡ Present a n → ((b : Name) (m : AttrId) → other ≡ Present b m → ⊥) → false ≡ same_cond k other
@@ -143,6 +160,9 @@ module _ (k other : Cond) where
   other_than_PresentSelected a n t never (layer.Compare b) e = refl
   other_than_PresentSelected a n t never (layer.CompareMeant b) e = refl
   other_than_PresentSelected a n t never (layer.Match b) e = refl
+  other_than_PresentSelected a n t never (layer.CompareTexts b) e = refl
+  other_than_PresentSelected a n t never (layer.MatchText b) e = refl
+  other_than_PresentSelected a n t never (layer.MatchGroup b) e = refl
   other_than_PresentSelected a n t never (layer.Captured b) e = refl
 
   pub no_PresentSelected : (a : Name) (n : AttrId) (t : Selection) → k ≡ PresentSelected a n t → ((b : Name) (m : AttrId) (u : Selection) → other ≡ PresentSelected b m u → ⊥) → false ≡ same_cond k other
@@ -158,6 +178,9 @@ module _ (k other : Cond) where
   other_than_Compare a never (layer.Compare b) e = absurd (never b (sym (roll-out-Cond other) ∙ ap roll-Cond e ∙ rolls-Compare b))
   other_than_Compare a never (layer.CompareMeant b) e = refl
   other_than_Compare a never (layer.Match b) e = refl
+  other_than_Compare a never (layer.CompareTexts b) e = refl
+  other_than_Compare a never (layer.MatchText b) e = refl
+  other_than_Compare a never (layer.MatchGroup b) e = refl
   other_than_Compare a never (layer.Captured b) e = refl
 
   pub no_Compare : (a : Comparison) → k ≡ Compare a → ((b : Comparison) → other ≡ Compare b → ⊥) → false ≡ same_cond k other
@@ -173,6 +196,9 @@ module _ (k other : Cond) where
   other_than_CompareMeant a never (layer.Compare b) e = refl
   other_than_CompareMeant a never (layer.CompareMeant b) e = absurd (never b (sym (roll-out-Cond other) ∙ ap roll-Cond e ∙ rolls-CompareMeant b))
   other_than_CompareMeant a never (layer.Match b) e = refl
+  other_than_CompareMeant a never (layer.CompareTexts b) e = refl
+  other_than_CompareMeant a never (layer.MatchText b) e = refl
+  other_than_CompareMeant a never (layer.MatchGroup b) e = refl
   other_than_CompareMeant a never (layer.Captured b) e = refl
 
   pub no_CompareMeant : (a : MeantComparison) → k ≡ CompareMeant a → ((b : MeantComparison) → other ≡ CompareMeant b → ⊥) → false ≡ same_cond k other
@@ -188,6 +214,9 @@ module _ (k other : Cond) where
   other_than_Match a never (layer.Compare b) e = refl
   other_than_Match a never (layer.CompareMeant b) e = refl
   other_than_Match a never (layer.Match b) e = absurd (never b (sym (roll-out-Cond other) ∙ ap roll-Cond e ∙ rolls-Match b))
+  other_than_Match a never (layer.CompareTexts b) e = refl
+  other_than_Match a never (layer.MatchText b) e = refl
+  other_than_Match a never (layer.MatchGroup b) e = refl
   other_than_Match a never (layer.Captured b) e = refl
 
   pub no_Match : (a : Matching) → k ≡ Match a → ((b : Matching) → other ≡ Match b → ⊥) → false ≡ same_cond k other
@@ -203,10 +232,89 @@ module _ (k other : Cond) where
   never_Captured group (layer.Compare b) = refl
   never_Captured group (layer.CompareMeant b) = refl
   never_Captured group (layer.Match b) = refl
+  never_Captured group (layer.CompareTexts b) = refl
+  never_Captured group (layer.MatchText b) = refl
+  never_Captured group (layer.MatchGroup b) = refl
   never_Captured group (layer.Captured b) = refl
 
   pub no_Captured : (group : ℕ) → k ≡ Captured group → false ≡ same_cond k other
   no_Captured group e = sym (opened (layer.Captured group) k other (e ∙ sym (rolls-Captured group)) ∙ never_Captured group (out-Cond other))
+
+  never_CompareTexts : (a : TextComparison) (y : Cond-F Cond) → same_layer (layer.CompareTexts a) y ≡ false
+  never_CompareTexts a (layer.Any b) = refl
+  never_CompareTexts a (layer.All b) = refl
+  never_CompareTexts a (layer.Not b) = refl
+  never_CompareTexts a (layer.Last b) = refl
+  never_CompareTexts a (layer.Present b m) = refl
+  never_CompareTexts a (layer.PresentSelected b m u) = refl
+  never_CompareTexts a (layer.Compare b) = refl
+  never_CompareTexts a (layer.CompareMeant b) = refl
+  never_CompareTexts a (layer.CompareTexts b) = refl
+  never_CompareTexts a (layer.Match b) = refl
+  never_CompareTexts a (layer.MatchText b) = refl
+  never_CompareTexts a (layer.MatchGroup b) = refl
+  never_CompareTexts a (layer.Captured b) = refl
+
+  pub no_CompareTexts : (a : TextComparison) → k ≡ CompareTexts a → false ≡ same_cond k other
+  no_CompareTexts a e = sym (opened (layer.CompareTexts a) k other (e ∙ sym (rolls-CompareTexts a)) ∙ never_CompareTexts a (out-Cond other))
+
+  never_MatchText : (a : Matching) (y : Cond-F Cond) → same_layer (layer.MatchText a) y ≡ false
+  never_MatchText a (layer.Any b) = refl
+  never_MatchText a (layer.All b) = refl
+  never_MatchText a (layer.Not b) = refl
+  never_MatchText a (layer.Last b) = refl
+  never_MatchText a (layer.Present b m) = refl
+  never_MatchText a (layer.PresentSelected b m u) = refl
+  never_MatchText a (layer.Compare b) = refl
+  never_MatchText a (layer.CompareMeant b) = refl
+  never_MatchText a (layer.CompareTexts b) = refl
+  never_MatchText a (layer.Match b) = refl
+  never_MatchText a (layer.MatchText b) = refl
+  never_MatchText a (layer.MatchGroup b) = refl
+  never_MatchText a (layer.Captured b) = refl
+
+  pub no_MatchText : (a : Matching) → k ≡ MatchText a → false ≡ same_cond k other
+  no_MatchText a e = sym (opened (layer.MatchText a) k other (e ∙ sym (rolls-MatchText a)) ∙ never_MatchText a (out-Cond other))
+
+  never_MatchGroup : (a : GroupMatching) (y : Cond-F Cond) → same_layer (layer.MatchGroup a) y ≡ false
+  never_MatchGroup a (layer.Any b) = refl
+  never_MatchGroup a (layer.All b) = refl
+  never_MatchGroup a (layer.Not b) = refl
+  never_MatchGroup a (layer.Last b) = refl
+  never_MatchGroup a (layer.Present b m) = refl
+  never_MatchGroup a (layer.PresentSelected b m u) = refl
+  never_MatchGroup a (layer.Compare b) = refl
+  never_MatchGroup a (layer.CompareMeant b) = refl
+  never_MatchGroup a (layer.CompareTexts b) = refl
+  never_MatchGroup a (layer.Match b) = refl
+  never_MatchGroup a (layer.MatchText b) = refl
+  never_MatchGroup a (layer.MatchGroup b) = refl
+  never_MatchGroup a (layer.Captured b) = refl
+
+  pub no_MatchGroup : (a : GroupMatching) → k ≡ MatchGroup a → false ≡ same_cond k other
+  no_MatchGroup a e = sym (opened (layer.MatchGroup a) k other (e ∙ sym (rolls-MatchGroup a)) ∙ never_MatchGroup a (out-Cond other))
+
+  -- a condition of none of the kinds that another can repeat
+  module _ (any : (b : List Cond) → k ≡ Any b → ⊥) (all : (b : List Cond) → k ≡ All b → ⊥) (negated : (b : Cond) → k ≡ Not b → ⊥) (last : (b : Code) → k ≡ Last b → ⊥)
+      (present : (b : Name) (m : AttrId) → k ≡ Present b m → ⊥) (selected : (b : Name) (m : AttrId) (u : Selection) → k ≡ PresentSelected b m u → ⊥)
+      (compared : (b : Comparison) → k ≡ Compare b → ⊥) (meant : (b : MeantComparison) → k ≡ CompareMeant b → ⊥) (matched : (b : Matching) → k ≡ Match b → ⊥) where
+    of_no_kind : (x : Cond-F Cond) → out-Cond k ≡ x → false ≡ same_cond k other
+    of_no_kind (layer.Any b) e = absurd (any b (sym (roll-out-Cond k) ∙ ap roll-Cond e ∙ rolls-Any b))
+    of_no_kind (layer.All b) e = absurd (all b (sym (roll-out-Cond k) ∙ ap roll-Cond e ∙ rolls-All b))
+    of_no_kind (layer.Not b) e = absurd (negated b (sym (roll-out-Cond k) ∙ ap roll-Cond e ∙ rolls-Not b))
+    of_no_kind (layer.Last b) e = absurd (last b (sym (roll-out-Cond k) ∙ ap roll-Cond e ∙ rolls-Last b))
+    of_no_kind (layer.Present b m) e = absurd (present b m (sym (roll-out-Cond k) ∙ ap roll-Cond e ∙ rolls-Present b m))
+    of_no_kind (layer.PresentSelected b m u) e = absurd (selected b m u (sym (roll-out-Cond k) ∙ ap roll-Cond e ∙ rolls-PresentSelected b m u))
+    of_no_kind (layer.Compare b) e = absurd (compared b (sym (roll-out-Cond k) ∙ ap roll-Cond e ∙ rolls-Compare b))
+    of_no_kind (layer.CompareMeant b) e = absurd (meant b (sym (roll-out-Cond k) ∙ ap roll-Cond e ∙ rolls-CompareMeant b))
+    of_no_kind (layer.CompareTexts b) e = no_CompareTexts b (sym (roll-out-Cond k) ∙ ap roll-Cond e ∙ rolls-CompareTexts b)
+    of_no_kind (layer.Match b) e = absurd (matched b (sym (roll-out-Cond k) ∙ ap roll-Cond e ∙ rolls-Match b))
+    of_no_kind (layer.MatchText b) e = no_MatchText b (sym (roll-out-Cond k) ∙ ap roll-Cond e ∙ rolls-MatchText b)
+    of_no_kind (layer.MatchGroup b) e = no_MatchGroup b (sym (roll-out-Cond k) ∙ ap roll-Cond e ∙ rolls-MatchGroup b)
+    of_no_kind (layer.Captured b) e = no_Captured b (sym (roll-out-Cond k) ∙ ap roll-Cond e ∙ rolls-Captured b)
+
+    pub no_other : false ≡ same_cond k other
+    no_other = of_no_kind (out-Cond k) refl
 
 -- ---- lists
 

@@ -11,19 +11,20 @@ use Rattle.avp_dict.specs.Dictionary.{Dictionary}
 use Rattle.avp_unlang.specs.Captures.{Captures, captured}
 use Rattle.avp_unlang.specs.Evaluations.{Evaluated, Evaluation, all_evaluated, any_evaluated, cond_evaluated, evaluated}
 use Rattle.avp_unlang.specs.PatternTruth.{is_matched}
+use Rattle.avp_unlang.specs.Texts.{is_group_matched, is_met_by_texts, is_text_matched}
 use Rattle.avp_unlang.specs.Truth.{is_met, is_met_by_meaning, same_code}
 use Rattle.avp_unlang.specs.declared.codes.Code.{Code}
 use Rattle.avp_unlang.specs.declared.tree.Cond.{Cond}
 use Rattle.avp_unlang.specs.declared.tree.Cond.TheFolds.{fold-roll-Cond, ind-Cond, map-Cond}
-use Rattle.avp_unlang.specs.declared.tree.Cond.TheOpen.{Cond-F, Any, All, Not, Last, Present, PresentSelected, Compare, CompareMeant, Match, Captured}
+use Rattle.avp_unlang.specs.declared.tree.Cond.TheOpen.{Cond-F, Any, All, Not, Last, Present, PresentSelected, Compare, CompareMeant, CompareTexts, Match, MatchText, MatchGroup, Captured}
 use Rattle.avp_unlang.specs.declared.tree.Cond.TheViews.{roll-Cond}
 use Rattle.policy_warnings.specs.Absences.{all_of, always, any_of, asked, both, cond_absence, either, negated, said_of, silent, warns_of_absence}
 use Rattle.policy_warnings.specs.Answers.{Answer, answer_both, answer_either, is_true}
-use Rattle.policy_warnings.specs.Mentions.{all_parts, comparison_mentions, cond_mentions, implies, matching_mentions, meant_comparison_mentions, mentions, selected, whole}
+use Rattle.policy_warnings.specs.Mentions.{all_parts, comparison_mentions, cond_mentions, implies, matching_mentions, meant_comparison_mentions, mentions, selected, side_mentions, whole}
 use Rattle.policy_warnings.specs.ServerEvaluations.{Answered, Answering, CapturesAlike, all_answered, any_answered, cond_answered, is_false, server_evaluated}
 use Rattle.policy_warnings.specs.declared.absences.Absence.{Absence}
 use Rattle.policy_warnings.specs.declared.mentions.Mention.{Mention}
-use Rattle.policy_warnings.proofs.Agreeing.{agreeing, and_assoc, and_yes, both_assoc, both_yes, either_assoc, either_no, found_first, matched_looks, matching_there, meant_there, met_there, or_assoc, or_no, said_same, silent_of, told_there}
+use Rattle.policy_warnings.proofs.Agreeing.{agreeing, and_assoc, and_yes, both_assoc, both_yes, either_assoc, either_no, found_first, matched_looks, matching_there, meant_there, met_there, or_assoc, or_no, said_same, silent_of, texts_there, told_there}
 use Rattle.policy_warnings.proofs.Sound.{Sound, sound_both, sound_compared, sound_either, sound_negated, sound_same, sound_told}
 
 -- ---- one condition, and then others
@@ -229,6 +230,9 @@ module _ (d : Dictionary) (s : State) (c : Code) where
   layer_sound (CompareMeant k) captures = (sound_compared s (meant_comparison_mentions k) (is_met_by_meaning k s) (meant_there k s), (λ b h. refl))
   layer_sound (Match k) captures =
       (sound_compared s (matching_mentions k) (is_matched d k s) (matching_there (is_matched d) (matched_looks d) k s), (λ b h. refl))
+  layer_sound (CompareTexts k) captures = (sound_compared s (side_mentions k.left) (is_met_by_texts d k s captures) (texts_there d captures k s), (λ b h. refl))
+  layer_sound (MatchText k) captures = (sound_told s (λ m. silent) (is_text_matched d k s) (silent_of s (is_text_matched d k s)), (λ b h. refl))
+  layer_sound (MatchGroup k) captures = (sound_told s (λ m. silent) (is_group_matched k captures) (silent_of s (is_group_matched k captures)), (λ b h. refl))
   layer_sound (Captured group) captures =
       let given = nat_lt 0 (length (captured group captures)) in
       (sound_told s (λ m. silent) given (silent_of s given), (λ b h. refl))

@@ -1,6 +1,6 @@
 -- Where a condition overlooks that an attribute is absent: a server ends the whole condition at a comparison with it, and
 -- by the rules of the language the comparison is false and the rest goes on. What was captured is always there, empty or
--- not, and says nothing of an attribute.
+-- not, and says nothing of an attribute; neither does a text, which is empty where the attribute is absent.
 use Rattle.std.specs.Prelude.{◌≡◌, Bool, true, false, not, ◌&&◌, ◌||◌, List, [], ◌∷◌}
 use Rattle.std.specs.List.{list_any}
 use Rattle.avp_lists.specs.States.{empty_state}
@@ -11,11 +11,11 @@ use Rattle.avp_unlang.specs.declared.codes.Code.{Code}
 use Rattle.avp_unlang.specs.declared.tree.Comparison.{Comparison}
 use Rattle.avp_unlang.specs.declared.tree.Cond.{Cond}
 use Rattle.avp_unlang.specs.declared.tree.Cond.TheFolds.{fold-Cond}
-use Rattle.avp_unlang.specs.declared.tree.Cond.TheOpen.{Cond-F, Any, All, Not, Last, Present, PresentSelected, Compare, CompareMeant, Match, Captured}
+use Rattle.avp_unlang.specs.declared.tree.Cond.TheOpen.{Cond-F, Any, All, Not, Last, Present, PresentSelected, Compare, CompareMeant, CompareTexts, Match, MatchText, MatchGroup, Captured}
 use Rattle.avp_unlang.specs.declared.tree.Cond.TheVariants as cond
 use Rattle.avp_unlang.specs.declared.tree.Matching.{Matching}
 use Rattle.policy_warnings.specs.Answers.{server_truth, server_truth_by}
-use Rattle.policy_warnings.specs.Mentions.{comparison_mentions, implies, is_there, matching_mentions, meant_comparison_mentions, mentions, selected, whole}
+use Rattle.policy_warnings.specs.Mentions.{comparison_mentions, implies, is_there, matching_mentions, meant_comparison_mentions, mentions, selected, side_mentions, whole}
 use Rattle.policy_warnings.specs.declared.absences.Absence.{Absence}
 use Rattle.policy_warnings.specs.declared.mentions.Mention.{Mention}
 
@@ -90,6 +90,9 @@ cond_absence m (PresentSelected list id selection) = asked (implies (selected li
 cond_absence m (Compare k) = compared (any_implies (comparison_mentions k) m)
 cond_absence m (CompareMeant k) = compared (any_implies (meant_comparison_mentions k) m)
 cond_absence m (Match k) = compared (any_implies (matching_mentions k) m)
+cond_absence m (CompareTexts k) = compared (any_implies (side_mentions k.left) m)
+cond_absence m (MatchText k) = silent
+cond_absence m (MatchGroup k) = silent
 cond_absence m (Captured group) = silent
 
 -- what a condition says of m, and where it overlooks that m is absent

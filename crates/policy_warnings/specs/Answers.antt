@@ -7,14 +7,12 @@ use Rattle.avp_lists.specs.Selections.{has_selected}
 use Rattle.avp_lists.specs.States.{list_of}
 use Rattle.avp_lists.specs.declared.lists.State.{State}
 use Rattle.avp_dict.specs.Dictionary.{Dictionary}
-use Rattle.avp_unlang.specs.PatternTruth.{is_matched}
-use Rattle.avp_unlang.specs.Truth.{is_met, is_met_by_meaning, never_matched, same_code}
+use Rattle.avp_unlang.specs.Truth.{Printed, is_met, is_met_by_meaning, nothing_printed, printed_by, same_code}
 use Rattle.avp_unlang.specs.declared.codes.Code.{Code}
 use Rattle.avp_unlang.specs.declared.tree.Cond.{Cond}
 use Rattle.avp_unlang.specs.declared.tree.Cond.TheFolds.{fold-Cond}
-use Rattle.avp_unlang.specs.declared.tree.Cond.TheOpen.{Cond-F, Any, All, Not, Last, Present, PresentSelected, Compare, CompareMeant, Match, Captured}
-use Rattle.avp_unlang.specs.declared.tree.Matching.{Matching}
-use Rattle.policy_warnings.specs.Mentions.{comparison_mentions, is_there, matching_mentions, meant_comparison_mentions}
+use Rattle.avp_unlang.specs.declared.tree.Cond.TheOpen.{Cond-F, Any, All, Not, Last, Present, PresentSelected, Compare, CompareMeant, CompareTexts, Match, MatchText, MatchGroup, Captured}
+use Rattle.policy_warnings.specs.Mentions.{comparison_mentions, is_there, matching_mentions, meant_comparison_mentions, side_mentions}
 use Rattle.policy_warnings.specs.declared.mentions.Mention.{Mention}
 
 -- true or false; nothing where a comparison with an absent attribute was met, which ends the whole condition
@@ -49,36 +47,41 @@ answer_any (first ∷ others) s c = answer_either (first s c) (answer_any others
 abbrev pub answer_compared : List Mention → State → Bool → Answer
 answer_compared compared s met = if list_all (is_there s) compared then Some met else None
 
--- a condition, given which comparisons with patterns are met
-abbrev pub cond_answer_with : (Matching → State → Bool) → Cond-F Asked → Asked
-cond_answer_with matched (Any parts) s c = answer_any parts s c
-cond_answer_with matched (All parts) s c = answer_all parts s c
-cond_answer_with matched (Not part) s c = option_map not (part s c)
-cond_answer_with matched (Last word) s c = Some (same_code c word)
-cond_answer_with matched (Present list id) s c = Some (has_instance id (list_of list s))
-cond_answer_with matched (PresentSelected list id selection) s c =
+-- a condition, given which comparisons with patterns and of texts are met
+abbrev pub cond_answer_with : Printed → Cond-F Asked → Asked
+cond_answer_with printed (Any parts) s c = answer_any parts s c
+cond_answer_with printed (All parts) s c = answer_all parts s c
+cond_answer_with printed (Not part) s c = option_map not (part s c)
+cond_answer_with printed (Last word) s c = Some (same_code c word)
+cond_answer_with printed (Present list id) s c = Some (has_instance id (list_of list s))
+cond_answer_with printed (PresentSelected list id selection) s c =
     Some (has_selected selection id (list_of list s))
-cond_answer_with matched (Compare k) s c = answer_compared (comparison_mentions k) s (is_met k s)
-cond_answer_with matched (CompareMeant k) s c =
+cond_answer_with printed (Compare k) s c = answer_compared (comparison_mentions k) s (is_met k s)
+cond_answer_with printed (CompareMeant k) s c =
     answer_compared (meant_comparison_mentions k) s (is_met_by_meaning k s)
-cond_answer_with matched (Match m) s c =
-    answer_compared (matching_mentions m) s (matched m s)
-cond_answer_with matched (Captured group) s c = Some false
+cond_answer_with printed (Match m) s c =
+    answer_compared (matching_mentions m) s (printed.matched m s)
+cond_answer_with printed (CompareTexts k) s c =
+    answer_compared (side_mentions k.left) s (printed.texts k s)
+cond_answer_with printed (MatchText m) s c = Some (printed.text_matched m s)
+cond_answer_with printed (MatchGroup m) s c = Some (printed.group_matched m)
+cond_answer_with printed (Captured group) s c = Some false
 
--- of a condition that compares with no pattern; a comparison with one of an attribute that is there counts as false
+-- of a condition that compares with no pattern and no texts; a comparison with these counts as false where it has an
+-- answer
 unfoldable pub server_answer : Cond → Asked
-server_answer = fold-Cond Asked (cond_answer_with never_matched)
+server_answer = fold-Cond Asked (cond_answer_with nothing_printed)
 
 -- of a condition, by the dictionary by which values are printed
 unfoldable pub server_answer_by : Dictionary → Cond → Asked
-server_answer_by dictionary = fold-Cond Asked (cond_answer_with (is_matched dictionary))
+server_answer_by dictionary = fold-Cond Asked (cond_answer_with (printed_by dictionary))
 
 -- no answer counts as false
 abbrev pub is_true : Answer → Bool
 is_true None = false
 is_true (Some value) = value
 
--- whether a server takes the branch of a condition that compares with no pattern
+-- whether a server takes the branch of a condition that compares with no pattern and no texts
 abbrev pub server_truth : Cond → State → Code → Bool
 server_truth cond s c = is_true (server_answer cond s c)
 

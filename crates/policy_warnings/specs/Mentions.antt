@@ -17,11 +17,13 @@ use Rattle.avp_unlang.specs.declared.tree.Comparand.TheVariants as comparand
 use Rattle.avp_unlang.specs.declared.tree.Comparison.{Comparison}
 use Rattle.avp_unlang.specs.declared.tree.Cond.{Cond}
 use Rattle.avp_unlang.specs.declared.tree.Cond.TheFolds.{fold-Cond}
-use Rattle.avp_unlang.specs.declared.tree.Cond.TheOpen.{Cond-F, Any, All, Not, Last, Present, PresentSelected, Compare, CompareMeant, Match, Captured}
+use Rattle.avp_unlang.specs.declared.tree.Cond.TheOpen.{Cond-F, Any, All, Not, Last, Present, PresentSelected, Compare, CompareMeant, CompareTexts, Match, MatchText, MatchGroup, Captured}
 use Rattle.avp_unlang.specs.declared.tree.Matching.{Matching}
 use Rattle.avp_unlang.specs.declared.tree.MeantComparand.{MeantComparand}
 use Rattle.avp_unlang.specs.declared.tree.MeantComparand.TheVariants as meant
 use Rattle.avp_unlang.specs.declared.tree.MeantComparison.{MeantComparison}
+use Rattle.avp_unlang.specs.declared.tree.TextSide.{TextSide}
+use Rattle.avp_unlang.specs.declared.tree.TextSide.TheVariants as side
 use Rattle.policy_warnings.specs.declared.mentions.Mention.{Mention}
 
 -- one of the instances is there
@@ -85,6 +87,11 @@ meant_comparison_mentions k =
 abbrev pub matching_mentions : Matching → List Mention
 matching_mentions k = selected k.list k.id k.selection ∷ []
 
+-- a text is one also where what it puts in is absent
+abbrev pub side_mentions : TextSide → List Mention
+side_mentions (side.Text parts) = []
+side_mentions (side.Instance list id selection) = selected list id selection ∷ []
+
 abbrev pub all_parts : List (List Mention) → List Mention
 all_parts = flat_map (λ ms. ms)
 
@@ -98,6 +105,9 @@ cond_mentions (PresentSelected list id selection) = []
 cond_mentions (Compare k) = comparison_mentions k
 cond_mentions (CompareMeant k) = meant_comparison_mentions k
 cond_mentions (Match k) = matching_mentions k
+cond_mentions (CompareTexts k) = side_mentions k.left
+cond_mentions (MatchText k) = []
+cond_mentions (MatchGroup k) = []
 cond_mentions (Captured group) = []
 
 -- what the comparisons of a condition look at

@@ -1,7 +1,8 @@
--- Conditions of a chain of `if` and `elsif` that repeat an earlier one of it: where they are asked they are false. One that
--- asks for what was captured repeats none, also not one of the same form: a comparison with a pattern may have captured
--- something else since. A comparison with a pattern is repeated by another: both look at the same lists, and what was
--- captured has no part in it. It captures all the same where it is asked.
+-- Conditions of a chain of `if` and `elsif` that repeat an earlier one of it: where they are asked they are false. One
+-- that asks for what was captured repeats none, also not one of the same form: a comparison with a pattern may have
+-- captured something else since. A comparison of an attribute with a pattern is repeated by another: both look at the
+-- same lists, and what was captured has no part in it. It captures all the same where it is asked. A comparison of
+-- texts, or of a text with a pattern, repeats none.
 use Rattle.std.specs.Prelude.{ℕ, Bool, true, false, ◌&&◌, List, [], ◌∷◌, ◌++◌, bytes_eq}
 use Rattle.std.specs.List.{flat_map, list_any}
 use Rattle.avp_lists.specs.Pairs.{value_eq}

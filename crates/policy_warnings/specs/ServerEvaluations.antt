@@ -10,13 +10,14 @@ use Rattle.avp_dict.specs.Dictionary.{Dictionary}
 use Rattle.avp_unlang.specs.Captures.{Captures, captured, captures_after}
 use Rattle.avp_unlang.specs.Evaluations.{evaluated}
 use Rattle.avp_unlang.specs.PatternTruth.{is_matched}
+use Rattle.avp_unlang.specs.Texts.{captures_after_group, captures_after_text, is_group_matched, is_met_by_texts, is_text_matched}
 use Rattle.avp_unlang.specs.Truth.{is_met, is_met_by_meaning, same_code}
 use Rattle.avp_unlang.specs.declared.codes.Code.{Code}
 use Rattle.avp_unlang.specs.declared.tree.Cond.{Cond}
 use Rattle.avp_unlang.specs.declared.tree.Cond.TheFolds.{fold-Cond}
-use Rattle.avp_unlang.specs.declared.tree.Cond.TheOpen.{Cond-F, Any, All, Not, Last, Present, PresentSelected, Compare, CompareMeant, Match, Captured}
+use Rattle.avp_unlang.specs.declared.tree.Cond.TheOpen.{Cond-F, Any, All, Not, Last, Present, PresentSelected, Compare, CompareMeant, CompareTexts, Match, MatchText, MatchGroup, Captured}
 use Rattle.policy_warnings.specs.Answers.{Answer, answer_compared, is_true}
-use Rattle.policy_warnings.specs.Mentions.{comparison_mentions, matching_mentions, meant_comparison_mentions}
+use Rattle.policy_warnings.specs.Mentions.{comparison_mentions, matching_mentions, meant_comparison_mentions, side_mentions}
 
 -- the answer, and what was captured after it
 pub record Answered : Type 0 where
@@ -69,6 +70,13 @@ cond_answered dictionary (CompareMeant k) s c captures =
 cond_answered dictionary (Match m) s c captures =
     answered (answer_compared (matching_mentions m) s (is_matched dictionary m s))
     (captures_after dictionary m s captures)
+cond_answered dictionary (CompareTexts k) s c captures =
+    answered (answer_compared (side_mentions k.left) s (is_met_by_texts dictionary k s captures))
+    captures
+cond_answered dictionary (MatchText m) s c captures =
+    answered (Some (is_text_matched dictionary m s)) (captures_after_text dictionary m s)
+cond_answered dictionary (MatchGroup m) s c captures =
+    answered (Some (is_group_matched m captures)) (captures_after_group m captures)
 cond_answered dictionary (Captured group) s c captures =
     answered (Some (nat_lt 0 (length (captured group captures)))) captures
 

@@ -9,13 +9,15 @@ ghost use Rattle.avp_unlang.specs.declared.codes.Code.{Code};
 ghost use Rattle.avp_unlang.specs.declared.tree.Cond.{Cond};
 ghost use Rattle.policy_warnings.specs.Absences.{EmptyLacks, NegatedMatchingsDiffer, NegationsDiffer, WarnsOfNegatedMatchings, WarnsOfNegations, all_of, always, any_implies, any_of, asked, both, compared, either, negated, said_of, warns_of_absence};
 ghost use Rattle.policy_warnings.specs.Answers.{server_truth, server_truth_by};
-ghost use Rattle.policy_warnings.specs.Mentions.{comparand_mentions, comparison_mentions, matching_mentions, meant_comparand_mentions, meant_comparison_mentions, mentions};
+ghost use Rattle.policy_warnings.specs.Mentions.{comparand_mentions, comparison_mentions, matching_mentions, meant_comparand_mentions, meant_comparison_mentions, mentions, side_mentions};
 ghost use Rattle.policy_warnings.specs.ServerEvaluations.{CapturesAlike, TakesAlike};
 ghost use Rattle.policy_warnings.specs.declared.absences.Absence.{Absence};
 ghost use Rattle.policy_warnings.specs.declared.mentions.Mention.{Mention};
 
 use crate::mentions::Mention;
-use avp_unlang::{Comparand, Comparison, Cond, Matching, MeantComparand, MeantComparison};
+use avp_unlang::{
+    Comparand, Comparison, Cond, Matching, MeantComparand, MeantComparison, TextSide,
+};
 
 /// What a condition says of an attribute, and where it overlooks that the attribute is absent.
 #[derive(Clone, Copy, Debug)]
@@ -127,6 +129,17 @@ fn matching_implies(matching: &Matching, mention: Mention) -> bool
     Mention::selected(matching.list, matching.id, matching.selection).implies(mention)
 }
 
+fn side_implies(side: &TextSide, mention: Mention) -> bool
+    ensures { result ≡ any_implies (side_mentions side.now) mention }
+{
+    match side {
+        TextSide::Text(_) => false,
+        TextSide::Instance(list, id, selection) => {
+            Mention::selected(*list, *id, *selection).implies(mention)
+        }
+    }
+}
+
 #[cycle(absences)]
 fn all_of(conds: &[Cond], mention: Mention) -> Absence
     ensures { result ≡ all_of always (map (said_of mention) conds.now) }
@@ -150,7 +163,7 @@ fn any_of(conds: &[Cond], mention: Mention) -> Absence
 }
 
 #[cycle(absences)]
-#[tactic(auto, using(crate::proofs::Layers::absence_any, crate::proofs::Layers::absence_all, crate::proofs::Layers::absence_not, crate::proofs::Layers::absence_last, crate::proofs::Layers::absence_present, crate::proofs::Layers::absence_present_selected, crate::proofs::Layers::absence_compare, crate::proofs::Layers::absence_compare_meant, crate::proofs::Layers::absence_match, crate::proofs::Layers::absence_captured))]
+#[tactic(auto, using(crate::proofs::Layers::absence_any, crate::proofs::Layers::absence_all, crate::proofs::Layers::absence_not, crate::proofs::Layers::absence_last, crate::proofs::Layers::absence_present, crate::proofs::Layers::absence_present_selected, crate::proofs::Layers::absence_compare, crate::proofs::Layers::absence_compare_meant, crate::proofs::Layers::absence_match, crate::proofs::Layers::absence_compare_texts, crate::proofs::Layers::absence_match_text, crate::proofs::Layers::absence_match_group, crate::proofs::Layers::absence_captured))]
 pub(crate) fn said_of(cond: &Cond, mention: Mention) -> Absence
     ensures { result ≡ said_of mention cond.now }
 {
@@ -158,7 +171,7 @@ pub(crate) fn said_of(cond: &Cond, mention: Mention) -> Absence
         Cond::Any(conds) => any_of(conds.as_slice(), mention),
         Cond::All(conds) => all_of(conds.as_slice(), mention),
         Cond::Not(cond) => said_of(cond.get(), mention).negated(),
-        Cond::Last(_) | Cond::Captured(_) => SILENT,
+        Cond::Last(_) | Cond::MatchText(_) | Cond::MatchGroup(_) | Cond::Captured(_) => SILENT,
         Cond::Present(list, id) => Absence::asked(Mention::whole(*list, *id).implies(mention)),
         Cond::PresentSelected(list, id, selection) => {
             Absence::asked(Mention::selected(*list, *id, *selection).implies(mention))
@@ -168,6 +181,10 @@ pub(crate) fn said_of(cond: &Cond, mention: Mention) -> Absence
             Absence::compared(meant_comparison_implies(comparison, mention))
         }
         Cond::Match(matching) => Absence::compared(matching_implies(matching, mention)),
+        Cond::CompareTexts(comparison) => Absence::compared(side_implies(
+            &comparison.left,
+            mention,
+        )),
     }
 }
 
@@ -213,6 +230,18 @@ fn matching_overlooked(matching: &Matching, whole: &Cond) -> bool
     )
 }
 
+fn side_overlooked(side: &TextSide, whole: &Cond) -> bool
+    ensures { result ≡ list_any (λ (m : Mention). (said_of m whole.now).overlooked_when_true)
+        (side_mentions side.now) }
+{
+    match side {
+        TextSide::Text(_) => false,
+        TextSide::Instance(list, id, selection) => {
+            overlooks(whole, Mention::selected(*list, *id, *selection))
+        }
+    }
+}
+
 #[cycle(overlooking)]
 fn any_overlooked(conds: &[Cond], whole: &Cond) -> bool
     ensures { result ≡ list_any (λ (m : Mention). (said_of m whole.now).overlooked_when_true)
@@ -228,7 +257,7 @@ fn any_overlooked(conds: &[Cond], whole: &Cond) -> bool
 
 // Whether an absence that a comparison in this part of a condition may meet is overlooked by the whole.
 #[cycle(overlooking)]
-#[tactic(auto, using(crate::proofs::Layers::mentions_any, crate::proofs::Layers::mentions_all, crate::proofs::Layers::mentions_not, crate::proofs::Layers::mentions_last, crate::proofs::Layers::mentions_present, crate::proofs::Layers::mentions_present_selected, crate::proofs::Layers::mentions_compare, crate::proofs::Layers::mentions_compare_meant, crate::proofs::Layers::mentions_match, crate::proofs::Layers::mentions_captured))]
+#[tactic(auto, using(crate::proofs::Layers::mentions_any, crate::proofs::Layers::mentions_all, crate::proofs::Layers::mentions_not, crate::proofs::Layers::mentions_last, crate::proofs::Layers::mentions_present, crate::proofs::Layers::mentions_present_selected, crate::proofs::Layers::mentions_compare, crate::proofs::Layers::mentions_compare_meant, crate::proofs::Layers::mentions_match, crate::proofs::Layers::mentions_compare_texts, crate::proofs::Layers::mentions_match_text, crate::proofs::Layers::mentions_match_group, crate::proofs::Layers::mentions_captured))]
 fn is_overlooked(part: &Cond, whole: &Cond) -> bool
     ensures { result ≡ list_any (λ (m : Mention). (said_of m whole.now).overlooked_when_true)
         (mentions part.now) }
@@ -236,10 +265,16 @@ fn is_overlooked(part: &Cond, whole: &Cond) -> bool
     match part {
         Cond::Any(conds) | Cond::All(conds) => any_overlooked(conds.as_slice(), whole),
         Cond::Not(cond) => is_overlooked(cond.get(), whole),
-        Cond::Last(_) | Cond::Present(..) | Cond::PresentSelected(..) | Cond::Captured(_) => false,
+        Cond::Last(_)
+        | Cond::Present(..)
+        | Cond::PresentSelected(..)
+        | Cond::MatchText(_)
+        | Cond::MatchGroup(_)
+        | Cond::Captured(_) => false,
         Cond::Compare(comparison) => comparison_overlooked(comparison, whole),
         Cond::CompareMeant(comparison) => meant_comparison_overlooked(comparison, whole),
         Cond::Match(matching) => matching_overlooked(matching, whole),
+        Cond::CompareTexts(comparison) => side_overlooked(&comparison.left, whole),
     }
 }
 

@@ -1,7 +1,7 @@
 use Rattle.std.proofs.Common.{ap, sym, ◌∙◌, map}
 use Rattle.policy_warnings.specs.Mentions.{means_same, selected, whole}
 use Rattle.policy_warnings.specs.Repeats.{all_same, same_cond}
-use Rattle.policy_warnings.proofs.Sameness.{no_Any, no_All, no_Not, no_Last, no_Present, no_PresentSelected, no_Compare, no_CompareMeant, no_Match, no_Captured, lengths_differ, same_All, same_Any, same_Compare, same_CompareMeant, same_Last, same_Match, same_Not, same_Present, same_PresentSelected}
+use Rattle.policy_warnings.proofs.Sameness.{no_Any, no_All, no_Not, no_Last, no_Present, no_PresentSelected, no_Compare, no_CompareMeant, no_Match, no_other, lengths_differ, same_All, same_Any, same_Compare, same_CompareMeant, same_Last, same_Match, same_Not, same_Present, same_PresentSelected}
 use Rattle.policy_warnings.proofs.repeats.+sameness.Goals as goal
 
 pub same_cond-returns-in_default : goal.same_cond-returns-in_default
@@ -32,7 +32,9 @@ pub same_cond-returns-in_default-9 : goal.same_cond-returns-in_default-9
 same_cond-returns-in_default-9 t c = no_Match c.args.cond.now c.args.other.now c.in_default.field-0-0 c.in_default.is-0 c.in_default.not-Match-1
 
 pub same_cond-returns-in_default-10 : goal.same_cond-returns-in_default-10
-same_cond-returns-in_default-10 t c = no_Captured c.args.cond.now c.args.other.now c.in_default.field-0-0 c.in_default.is-0
+same_cond-returns-in_default-10 t c =
+    no_other c.args.cond.now c.args.other.now c.in_default.not-Any-0 c.in_default.not-All-0 c.in_default.not-Not-0 c.in_default.not-Last-0 c.in_default.not-Present-0 c.in_default.not-PresentSelected-0
+    c.in_default.not-Compare-0 c.in_default.not-CompareMeant-0 c.in_default.not-Match-0
 
 pub same_cond-returns-in-Any-Any : goal.same_cond-returns-in-Any-Any
 same_cond-returns-in-Any-Any t c =
