@@ -31,6 +31,7 @@ by_kind line offset kind.Misplaced = inr (record { some = λ e. cc; told = refl 
 by_kind line offset kind.TooDeep = inr (record { some = λ e. cc; told = refl })
 by_kind line offset kind.TooLarge = inr (record { some = λ e. cc; told = refl })
 by_kind line offset kind.OtherType = inr (record { some = λ e. cc; told = refl })
+by_kind line offset kind.NotExpansion = inr (record { some = λ e. cc; told = refl })
 by_kind line offset (kind.Pattern pattern.Empty) = inr (record { some = λ e. cc; told = refl })
 by_kind line offset (kind.Pattern (pattern.NotUtf8 at)) = inr (record { some = λ e. cc; told = refl })
 by_kind line offset (kind.Pattern (pattern.Expansion at)) = inr (record { some = λ e. cc; told = refl })

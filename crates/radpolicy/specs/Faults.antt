@@ -88,6 +88,7 @@ policy_fault_row policy.Misplaced = numbered 51 (codes "token does not fit")
 policy_fault_row policy.TooDeep = numbered 53 (codes "nested too deep")
 policy_fault_row policy.TooLarge = numbered 54 (codes "policy too large")
 policy_fault_row policy.OtherType = numbered 55 (codes "types differ")
+policy_fault_row policy.NotExpansion = numbered 61 (codes "not one expansion")
 policy_fault_row (policy.Pattern fault) = pattern_fault_row fault
 policy_fault_row policy.Memory = out_of_memory
 

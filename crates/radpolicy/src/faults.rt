@@ -234,6 +234,7 @@ fn policy_fault_row(kind: PolicyKind) -> FaultRow
         PolicyKind::TooDeep => numbered(53, "nested too deep"),
         PolicyKind::TooLarge => numbered(54, "policy too large"),
         PolicyKind::OtherType => numbered(55, "types differ"),
+        PolicyKind::NotExpansion => numbered(61, "not one expansion"),
         PolicyKind::Pattern(fault) => pattern_fault_row(fault),
         PolicyKind::Memory => out_of_memory(),
     }

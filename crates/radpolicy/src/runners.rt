@@ -12,17 +12,18 @@ use crate::faults::Fault;
 use crate::prepared::PreparedPolicy;
 use crate::run_outcomes::RunOutcome;
 use crate::starts::Start;
-use avp_unlang::Matchers;
+use avp_step::Searches;
 use std::alloc::{AllocError, Global};
 use std::marker::Model;
 
-/// Runs a prepared policy on one request after another, and keeps what searches for its patterns from run to run: to make
-/// that is dear beside a run.
+/// Runs a prepared policy on one request after another, and keeps what searches for its patterns, and the room for what
+/// they capture, from run to run: to make that is dear beside a run. So the first run takes the memory for that, and so
+/// does one after a run that was refused.
 pub struct Runner<'p> {
     alloc: Global,
     prepared: &'p PreparedPolicy<'p>,
     // None before the first run, and after one that was refused.
-    matchers: Option<Matchers<'p>>,
+    searches: Option<Searches<'p>>,
 }
 
 impl Drop for Runner<'_> {
@@ -30,7 +31,7 @@ impl Drop for Runner<'_> {
         let Runner {
             alloc: _,
             prepared: _,
-            matchers: _,
+            searches: _,
         } = self;
     }
 }
@@ -48,8 +49,8 @@ impl<'p> Model for Runner<'p> {
 
     ghost view = { λ r. r.prepared.now };
 
-    ghost invariant = { λ r. IfSome r.matchers (λ m.
-        IsTrue (policy_patterns_pass (is_among m) r.prepared.now.statements)) };
+    ghost invariant = { λ r. IfSome r.searches (λ s.
+        IsTrue (policy_patterns_pass (is_among s.patterns) r.prepared.now.statements)) };
 }
 
 impl<'p> Runner<'p> {
@@ -60,7 +61,7 @@ impl<'p> Runner<'p> {
         Runner {
             alloc,
             prepared,
-            matchers: None,
+            searches: None,
         }
     }
 
@@ -71,15 +72,15 @@ impl<'p> Runner<'p> {
         self.prepared
     }
 
-    // What searches for the patterns of the policy.
-    fn take_matchers(&mut self) -> Result<Matchers<'p>, AllocError>
-        ensures passes { IfOk result (λ matchers.
-            IsTrue (policy_patterns_pass (is_among matchers) self.old.statements)) }
+    // What the next run searches with.
+    fn take_searches(&mut self) -> Result<Searches<'p>, AllocError>
+        ensures passes { IfOk result (λ searches.
+            IsTrue (policy_patterns_pass (is_among searches.patterns) self.old.statements)) }
         ensures kept { self.new ≡ self.old }
     {
-        match self.matchers.take() {
-            Some(matchers) => Ok(matchers),
-            None => Matchers::new(self.alloc, self.prepared.policy().patterns()),
+        match self.searches.take() {
+            Some(searches) => Ok(searches),
+            None => Searches::new(self.alloc, self.prepared.policy().patterns()),
         }
     }
 
@@ -117,9 +118,9 @@ impl<'p> Runner<'p> {
         ensures printed { IfErr result IsPrintedAnywhere }
         ensures kept { self.new ≡ self.old }
     {
-        let matchers = self.take_matchers()?;
-        let (outcome, matchers) = start.run_with(self.alloc, matchers)?;
-        self.matchers = Some(matchers);
+        let searches = self.take_searches()?;
+        let (outcome, searches) = start.run_with(self.alloc, searches)?;
+        self.searches = Some(searches);
         Ok(outcome)
     }
 }

@@ -9,6 +9,7 @@ ghost use Rattle.avp_forms.specs.Requests.{request_written};
 ghost use Rattle.avp_packet.specs.Decoded.{decoded};
 ghost use Rattle.avp_packet.specs.Packets.{IsRequestCode};
 ghost use Rattle.avp_packet.specs.Unchecked.{decoded_unchecked};
+ghost use Rattle.avp_step.specs.Searches.{with_room_for};
 ghost use Rattle.avp_step.specs.Walk.{last_outcome, walk_from};
 ghost use Rattle.avp_unlang.specs.Cleanness.{KeepsReplyClean};
 ghost use Rattle.avp_unlang.specs.Meaning.{Outcome as End};
@@ -37,8 +38,8 @@ use avp_dict::{Dictionary, LineFault, LineKind};
 use avp_forms::Profile;
 use avp_lists::{MAX_PAIRS, Pair, Pairs, SlotStore, State, Store};
 use avp_packet::{Packet, decode, decode_unchecked};
-use avp_step::{Ended, Stepper, run_with};
-use avp_unlang::{Matchers, Policy, keeps_reply_clean};
+use avp_step::{Ended, Searches, Stepper, run_with};
+use avp_unlang::{Policy, keeps_reply_clean};
 use std::alloc::{AllocError, Global};
 use std::marker::Model;
 
@@ -403,9 +404,10 @@ impl<'a> Start<'a> {
     fn end_of<'p>(
         self,
         alloc: Global,
-        matchers: Matchers<'p>,
+        searches: Searches<'p>,
     ) -> Result<Ended<'p, SlotStore>, AllocError>
-        requires { IsTrue (policy_patterns_pass (is_among matchers) self.prepared.statements) }
+        requires { IsTrue (policy_patterns_pass (is_among searches.patterns)
+            self.prepared.statements) }
         ensures end { IfOk result (λ ended. end_of self.entry ≡ record {
           state = present (⟦<SlotStore as Store>⟧.history ended.store);
           code = ended.code;
@@ -413,7 +415,8 @@ impl<'a> Start<'a> {
         }) }
         ensures fits { IfOk result (λ ended. StateFits self.entry.prepared.dictionary
             (present (⟦<SlotStore as Store>⟧.history ended.store))) }
-        ensures kept { IfOk result (λ ended. ended.matchers ≡ matchers.entry) }
+        ensures kept { IfOk result (λ ended. ended.searches
+            ≡ with_room_for self.entry.prepared.statements searches.entry) }
     {
         let lists = State {
             request: self.request.list,
@@ -421,7 +424,7 @@ impl<'a> Start<'a> {
             control: self.control,
         };
         let store = entry_store(alloc, lists)?;
-        run_with(alloc, self.dictionary, self.policy, matchers, store)
+        run_with(alloc, self.dictionary, self.policy, searches, store)
     }
 
     // What is written of clean reply lists is read back as they are, also of those that the policy makes.
@@ -431,13 +434,14 @@ impl<'a> Start<'a> {
         keeps_reply_clean(self.dictionary, self.policy);
     }
 
-    /// Runs the policy to its end, as [`Start::run`] does, searching with these for its patterns.
+    /// Runs the policy to its end, as [`Start::run`] does, searching with these.
     pub(crate) fn run_with<'p>(
         self,
         alloc: Global,
-        matchers: Matchers<'p>,
-    ) -> Result<(RunOutcome<'a>, Matchers<'p>), Fault>
-        requires { IsTrue (policy_patterns_pass (is_among matchers) self.prepared.statements) }
+        searches: Searches<'p>,
+    ) -> Result<(RunOutcome<'a>, Searches<'p>), Fault>
+        requires { IsTrue (policy_patterns_pass (is_among searches.patterns)
+            self.prepared.statements) }
         ensures ok { IfOk result (λ r. outcome_of self.entry ≡ Some r.0) }
         ensures refused { IfErr result (MemoryOr (λ f. (f ≡ fault.PacketTooLong)
             × (outcome_of self.entry ≡ None))) }
@@ -445,23 +449,24 @@ impl<'a> Start<'a> {
             (is_clean self.entry.reply self.entry.prepared.dictionary ≡ true
             → is_clean (proxy_states self.entry.request) self.entry.prepared.dictionary ≡ true
             → OutcomeIsRead self.entry) }
-        ensures kept { IfOk result (λ r. r.1 ≡ matchers.entry) }
+        ensures kept { IfOk result (λ r. r.1
+            ≡ with_room_for self.entry.prepared.statements searches.entry) }
         ensures printed { IfErr result IsPrintedAnywhere }
     {
         self.keeps_reply_clean();
         let dictionary = self.dictionary();
         let profile = self.profile();
         let head = self.head(alloc)?;
-        let ended = self.end_of(alloc, matchers)?;
+        let ended = self.end_of(alloc, searches)?;
         let reply = sent_by(alloc, dictionary, &head, ended.code, &ended.store)?;
         let Ended {
             store,
             code,
             stopped,
-            matchers,
+            searches,
         } = ended;
         let outcome = RunOutcome::new(dictionary, profile, store, code, stopped, reply);
-        Ok((outcome, matchers))
+        Ok((outcome, searches))
     }
 
     /// Runs the policy to its end. The run needs no memory that it does not give back with its outcome, and changes
@@ -504,8 +509,8 @@ impl<'a> Start<'a> {
             → OutcomeIsRead self.entry) }
         ensures printed { IfErr result IsPrintedAnywhere }
     {
-        let matchers = Matchers::new(alloc, self.policy.patterns())?;
-        let (outcome, _) = self.run_with(alloc, matchers)?;
+        let searches = Searches::new(alloc, self.policy.patterns())?;
+        let (outcome, _) = self.run_with(alloc, searches)?;
         Ok(outcome)
     }
 }

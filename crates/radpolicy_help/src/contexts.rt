@@ -33,8 +33,10 @@ pub(crate) enum Expected {
     ComparedReference,
     /// What may follow a whole operand.
     Joint,
-    /// The same after a group that was captured, which is not compared.
-    GroupJoint,
+    /// What may follow a text on the left side, of a wider policy.
+    TextRelation,
+    /// What may follow one group as a text, which may also be a condition by itself.
+    GroupRelation,
 }
 
 /// An open block: where its first word begins, and whether it is an `update`.
@@ -61,6 +63,14 @@ pub(crate) struct Context<'a> {
 
 pub(crate) fn is_code(word: &str) -> bool {
     matches!(word, "ok" | "noop" | "updated" | "fail" | "reject")
+}
+
+// Whether a token is a text of one group alone, as `"%{1}"`.
+fn is_group_alone(token: &str) -> bool {
+    matches!(
+        token.as_bytes(),
+        [b'"', b'%', b'{', b'0'..=b'9', b'}', b'"']
+    )
 }
 
 fn is_relation(sign: &str) -> bool {
@@ -133,8 +143,10 @@ impl<'a> Context<'a> {
             self.expected = Expected::Reference;
         } else if is_code(token.text()) {
             self.expected = Expected::Joint;
-        } else if token.text().starts_with("\"") {
-            self.expected = Expected::GroupJoint;
+        } else if is_group_alone(token.text()) {
+            self.expected = Expected::GroupRelation;
+        } else if token.text().starts_with("\"") || token.text().starts_with("'") {
+            self.expected = Expected::TextRelation;
         } else if token.is_word() {
             self.name = token.text();
             self.expected = Expected::Relation;
@@ -146,9 +158,9 @@ impl<'a> Context<'a> {
             "&&" | "||" => self.expected = Expected::Operand,
             ")" => self.close_bracket(),
             sign => {
-                if self.expected == Expected::Relation && is_relation(sign) {
+                if self.expected != Expected::Joint && is_relation(sign) {
                     self.expected = Expected::Comparand;
-                } else if self.expected == Expected::Relation && is_match(sign) {
+                } else if self.expected != Expected::Joint && is_match(sign) {
                     self.expected = Expected::Joint;
                 }
             }
@@ -176,7 +188,10 @@ impl<'a> Context<'a> {
                 self.name = token.text();
                 self.expected = Expected::Relation;
             }
-            Expected::Relation | Expected::Joint | Expected::GroupJoint => self.read_joint(token),
+            Expected::Relation
+            | Expected::TextRelation
+            | Expected::GroupRelation
+            | Expected::Joint => self.read_joint(token),
             Expected::Comparand if is_reference => self.expected = Expected::ComparedReference,
             Expected::Comparand | Expected::ComparedReference => self.expected = Expected::Joint,
         }
@@ -217,16 +232,16 @@ pub(crate) fn expected_text(
         }
         Expected::Condition => "(",
         Expected::Operand if profile == Profile::Wider => {
-            "& and an attribute, \"%{1}\" or another group, a code (ok, noop, updated, fail or reject), \
-            ! or ("
+            "& and an attribute, a text in quotes, a code (ok, noop, updated, fail or reject), ! or ("
         }
         Expected::Operand =>
             "& and an attribute, a code (ok, noop, updated, fail or reject), ! or (",
-        Expected::Relation if profile == Profile::Wider => {
+        Expected::TextRelation => "one of == != < <= > >= =~ !~",
+        Expected::Relation | Expected::GroupRelation if profile == Profile::Wider => {
             "one of == != < <= > >= =~ !~ && || )"
         }
-        Expected::Relation => "one of == != < <= > >= && || )",
+        Expected::Relation | Expected::GroupRelation => "one of == != < <= > >= && || )",
         Expected::Comparand => "a value, a text in quotes, or & and an attribute",
-        Expected::Joint | Expected::GroupJoint => "one of && || )",
+        Expected::Joint => "one of && || )",
     }
 }

@@ -124,22 +124,28 @@ fn condition_hint(context: &Context<'_>, found: &str, profile: Profile) -> &'sta
             "regular expressions are read below # profile: wider in the first line; without it write \
             == and the whole text"
         }
-        (_, "=~" | "!~") => "a regular expression follows & and the name of an attribute",
-        (Expected::GroupJoint, "=" | ":=" | "==" | "!=" | "<" | "<=" | ">" | ">=") => {
-            "what was captured is not compared here: write into the regular expression what it has to be"
-        }
-        (Expected::Relation, "=" | ":=") => "to compare, write ==; = and := set attributes",
+        (_, "=~" | "!~") =>
+            "a regular expression follows & and the name of an attribute, or one expansion as a text",
+        (Expected::Relation | Expected::TextRelation | Expected::GroupRelation, "=" | ":=") =>
+            "to compare, write ==; = and := set attributes",
         (Expected::Relation, "===" | "!==") => "to compare, write == or !=",
-        (Expected::Relation | Expected::Joint | Expected::GroupJoint, "{") =>
+        (Expected::Relation | Expected::Joint | Expected::GroupRelation, "{") =>
             "a ) is missing before it",
         (Expected::Operand | Expected::Comparand, ")" | "{") => "what is compared is missing",
         (Expected::Comparand, "(") => "write a value, not a cast or an expression",
+        (Expected::Comparand, "&") => {
+            "a text is not compared with an attribute: write the attribute first, as in &Name == \"%{1}\""
+        }
+        (Expected::TextRelation, ")" | "&&" | "||" | "{") => {
+            "a text by itself is no condition, but for one group, as \"%{1}\": compare it"
+        }
         (Expected::Operand, "<") => "casts are left out here: write &Name alone",
         (Expected::Operand, _) if has_number(found) => operand_hint(found, profile),
         (Expected::Operand, _) => "write &Name to test or compare an attribute",
-        (Expected::Relation | Expected::Joint | Expected::GroupJoint, _) => {
-            "put a text with blanks into quotes, and && or || between two conditions"
-        }
+        (
+            Expected::Relation | Expected::Joint | Expected::TextRelation | Expected::GroupRelation,
+            _,
+        ) => { "put a text with blanks into quotes, and && or || between two conditions" }
         _ => "write the attribute's name after the &",
     }
 }
@@ -204,7 +210,8 @@ fn push_misplaced_hint(
         | Expected::Comparand
         | Expected::ComparedReference
         | Expected::Joint
-        | Expected::GroupJoint => condition_hint(context, found, profile),
+        | Expected::TextRelation
+        | Expected::GroupRelation => condition_hint(context, found, profile),
     };
     push_all(help, &[hint, "\n"])
 }
@@ -279,13 +286,11 @@ fn expansion_hint(text: &str) -> &'static str {
 }
 
 // What to do about what is no token, by its first octets.
-fn unreadable_hint(found: &str, expected: Expected) -> &'static str {
+fn unreadable_hint(found: &str) -> &'static str {
     if found.starts_with("\"") || found.starts_with("'") {
         let is_ended = found.len() > 1
             && found.ends_with(if found.starts_with("'") { "'" } else { "\"" });
-        if is_ended && expected == Expected::Comparand && has_number(found) {
-            "to compare with what was captured, set an attribute to it in an update, and compare with that"
-        } else if is_ended {
+        if is_ended {
             expansion_hint(found)
         } else {
             "the text has no closing quote on its line"
@@ -433,7 +438,7 @@ fn push_sentences(
         }
         PolicyKind::Unreadable => {
             push_all(help, &["found ", found, "\n"])?;
-            push_all(help, &[unreadable_hint(found, context.expected), "\n"])
+            push_all(help, &[unreadable_hint(found), "\n"])
         }
         PolicyKind::Unknown => {
             let name = unknown_name(alloc, sources, found);
@@ -452,7 +457,14 @@ fn push_sentences(
         PolicyKind::NotWritable => push_not_writable(help, name_in(found)),
         PolicyKind::TooDeep => push_all(help, &["64 signs { ( and ! are open here already\n"]),
         PolicyKind::TooLarge => push_all(help, &["a policy has at most 65535 lines and words\n"]),
+        PolicyKind::OtherType if found.starts_with('"') => {
+            push_text_beside(help, name_in(context.name))
+        }
         PolicyKind::OtherType => push_other_type(help, name_in(context.name), found),
+        PolicyKind::NotExpansion => push_all(
+            help,
+            &["of texts a regular expression searches \"%{Name}\" and \"%{1}\" alone\n"],
+        ),
         PolicyKind::Pattern(fault) => push_pattern_fault(help, fault),
         PolicyKind::Memory => Ok(()),
     }
@@ -476,6 +488,17 @@ fn push_not_writable(help: &mut Vec<u8>, name: &str) -> Result<(), AllocError> {
             name,
             " is not written under this name\nwrite the name of what is in it, as \
             Cisco-AVPair for Vendor-Specific, or User-Password for Attr-2\n",
+        ],
+    )
+}
+
+fn push_text_beside(help: &mut Vec<u8>, name: &str) -> Result<(), AllocError> {
+    push_all(
+        help,
+        &[
+            "a text with an expansion is compared with octets and strings without a tag, and ",
+            name,
+            " is neither\ncompare it with a value, or with one expansion alone, of its own type\n",
         ],
     )
 }

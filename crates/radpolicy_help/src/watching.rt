@@ -6,7 +6,7 @@ use avp_dict::{Dictionary, Form};
 use avp_lists::{AttrId, List, Op};
 use avp_unlang::{
     Branch, Comparand, Comparison, Cond, Line, MeantComparand, MeantComparison, Part, Source,
-    Statement,
+    Statement, TextSide,
 };
 use std::alloc::{AllocError, Global};
 
@@ -143,13 +143,27 @@ impl<'a> Watcher<'a> {
         match cond {
             Cond::Any(conds) | Cond::All(conds) => self.any_asks_virtual(conds.as_slice()),
             Cond::Not(cond) => self.asks_virtual(cond.get()),
-            Cond::Last(_) | Cond::Captured(_) => false,
+            // What was captured is warned of where it is compared.
+            Cond::Last(_) | Cond::MatchGroup(_) | Cond::Captured(_) => false,
             Cond::Present(list, id) | Cond::PresentSelected(list, id, _) => {
                 self.is_virtual(*list, *id)
             }
             Cond::Compare(comparison) => self.compares_virtual(comparison),
             Cond::CompareMeant(comparison) => self.compares_meant_virtual(comparison),
-            Cond::Match(matching) => self.is_virtual(matching.list, matching.id),
+            Cond::Match(matching) | Cond::MatchText(matching) => {
+                self.is_virtual(matching.list, matching.id)
+            }
+            Cond::CompareTexts(comparison) => {
+                self.side_is_virtual(&comparison.left)
+                    || self.any_part_is_virtual(comparison.right.as_slice())
+            }
+        }
+    }
+
+    fn side_is_virtual(&self, side: &TextSide) -> bool {
+        match side {
+            TextSide::Text(parts) => self.any_part_is_virtual(parts.as_slice()),
+            TextSide::Instance(list, id, _) => self.is_virtual(*list, *id),
         }
     }
 

@@ -50,23 +50,23 @@ fn other_groups(rt: HostRuntime) -> Result<(), Fail> {
 
 #[test]
 fn more_than_a_group(rt: HostRuntime) -> Result<(), Fail> {
-    let hint = "are alone between double quotes, as \"%{1}\"\n";
+    let hint = "but for one group, as \"%{1}\": compare it\n";
     let text = b"# profile: wider\nif (\"%{1}x\") { ok }";
-    assert!(rt; says(rt.alloc(), text, "rate:2:5\n", hint)?);
+    assert!(rt; says(rt.alloc(), text, "rate:2:12\n", hint)?);
     let single = b"# profile: wider\nif ('%{1}') { ok }";
-    assert!(rt; says(rt.alloc(), single, "rate:2:5\n", hint)?);
+    assert!(rt; says(rt.alloc(), single, "rate:2:11\n", hint)?);
     Ok(())
 }
 
 #[test]
 fn compared(rt: HostRuntime) -> Result<(), Fail> {
-    let left = b"# profile: wider\nif (&User-Name && \"%{1}\" == \"bob\") { ok }";
+    let left = b"# profile: wider\nif (\"%{1}\" == &User-Name) { ok }";
     assert!(rt;
         says(
             rt.alloc(),
             left,
-            "rate:2:26\n",
-            "what was captured is not compared here"
+            "rate:2:15\n",
+            "write the attribute first, as in &Name == \"%{1}\"\n"
         )?
     );
     let open = b"# profile: wider\nif (\"%{1}\" { ok }";
@@ -91,13 +91,13 @@ fn other_names(rt: HostRuntime) -> Result<(), Fail> {
 
 #[test]
 fn right_of_a_sign(rt: HostRuntime) -> Result<(), Fail> {
-    let text = b"# profile: wider\nif (&User-Name == \"%{1}\") { ok }";
+    let text = b"# profile: wider\nif (&NAS-Port == \"%{1}\") { ok }";
     assert!(rt;
         says(
             rt.alloc(),
             text,
-            "rate:2:19\n",
-            "\nto compare with what was captured, set"
+            "rate:2:18\n",
+            "a text with an expansion is compared with octets and strings without a tag, and NAS-Port is neither\n"
         )?
     );
     Ok(())

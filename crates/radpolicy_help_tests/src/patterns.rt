@@ -95,6 +95,14 @@ fn what_is_missing(rt: HostRuntime) -> Result<(), Fail> {
             "may be i, m or both"
         )?
     );
+    assert!(rt;
+        says(
+            rt.alloc(),
+            b"(\"a%{Class}\" =~ /x/)",
+            "rate:2:17\n",
+            "searches \"%{Name}\" and \"%{1}\" alone\n"
+        )?
+    );
     Ok(())
 }
 
@@ -104,6 +112,10 @@ fn after_a_pattern(rt: HostRuntime) -> Result<(), Fail> {
     assert!(rt; has(&help, "found ==; here may be one of && || )\n"));
     let help = wider_help(rt.alloc(), b"(&User-Name 1)")?;
     assert!(rt; has(&help, "here may be one of == != < <= > >= =~ !~ && || )\n"));
+    let help = wider_help(rt.alloc(), b"(\"%{1}\" 1)")?;
+    assert!(rt; has(&help, "here may be one of == != < <= > >= =~ !~ && || )\n"));
+    let help = wider_help(rt.alloc(), b"(\"%{1}x\")")?;
+    assert!(rt; has(&help, "found ); here may be one of == != < <= > >= =~ !~\n"));
     Ok(())
 }
 

@@ -10,10 +10,12 @@ use Rattle.avp_unlang.specs.declared.tree.Comparison.{Comparison}
 use Rattle.avp_unlang.specs.declared.tree.Cond.{Cond}
 use Rattle.avp_unlang.specs.declared.tree.Cond.TheFolds.{fold-roll-Cond}
 use Rattle.avp_unlang.specs.declared.tree.Cond.TheOpen as cond
-use Rattle.avp_unlang.specs.declared.tree.Cond.TheVariants.{Any, All, Not, Last, Present, PresentSelected, Compare, CompareMeant, Match, Captured, rolls-Any, rolls-All, rolls-Not, rolls-Last, rolls-Present, rolls-PresentSelected, rolls-Compare, rolls-CompareMeant, rolls-Match, rolls-Captured}
+use Rattle.avp_unlang.specs.declared.tree.Cond.TheVariants.{Any, All, Not, Last, Present, PresentSelected, Compare, CompareMeant, CompareTexts, Match, MatchText, MatchGroup, Captured, rolls-Any, rolls-All, rolls-Not, rolls-Last, rolls-Present, rolls-PresentSelected, rolls-Compare, rolls-CompareMeant, rolls-CompareTexts, rolls-Match, rolls-MatchText, rolls-MatchGroup, rolls-Captured}
 use Rattle.avp_unlang.specs.declared.tree.Line.{Line}
+use Rattle.avp_unlang.specs.declared.tree.GroupMatching.{GroupMatching}
 use Rattle.avp_unlang.specs.declared.tree.Matching.{Matching}
 use Rattle.avp_unlang.specs.declared.tree.MeantComparison.{MeantComparison}
+use Rattle.avp_unlang.specs.declared.tree.TextComparison.{TextComparison}
 use Rattle.avp_unlang.specs.declared.tree.Statement.{Statement}
 use Rattle.avp_unlang.specs.declared.tree.Statement.TheFolds.{fold-roll-Statement, fold_out-Branch}
 use Rattle.avp_unlang.specs.declared.tree.Statement.TheOpen as layer
@@ -45,6 +47,10 @@ pub in_match : (m : Matching) → matched_in_cond (Match m) ≡ m.id ∷ []
 unfolding matched_in_cond
 in_match m = ap matched_in_cond (sym (rolls-Match m)) ∙ fold-roll-Cond (List AttrId) cond_matched (cond.Match m)
 
+pub in_match_text : (m : Matching) → matched_in_cond (MatchText m) ≡ m.id ∷ []
+unfolding matched_in_cond
+in_match_text m = ap matched_in_cond (sym (rolls-MatchText m)) ∙ fold-roll-Cond (List AttrId) cond_matched (cond.MatchText m)
+
 -- others have none
 module _ (old : List AttrId) where
   none_in : (c : Cond) → matched_in_cond c ≡ [] → old ≡ old ++ matched_in_cond c
@@ -69,6 +75,14 @@ module _ (old : List AttrId) where
   pub none_in_compare_meant : (k : MeantComparison) → old ≡ old ++ matched_in_cond (CompareMeant k)
   unfolding matched_in_cond
   none_in_compare_meant k = none_in (CompareMeant k) (ap matched_in_cond (sym (rolls-CompareMeant k)) ∙ fold-roll-Cond (List AttrId) cond_matched (cond.CompareMeant k))
+
+  pub none_in_compare_texts : (k : TextComparison) → old ≡ old ++ matched_in_cond (CompareTexts k)
+  unfolding matched_in_cond
+  none_in_compare_texts k = none_in (CompareTexts k) (ap matched_in_cond (sym (rolls-CompareTexts k)) ∙ fold-roll-Cond (List AttrId) cond_matched (cond.CompareTexts k))
+
+  pub none_in_match_group : (m : GroupMatching) → old ≡ old ++ matched_in_cond (MatchGroup m)
+  unfolding matched_in_cond
+  none_in_match_group m = none_in (MatchGroup m) (ap matched_in_cond (sym (rolls-MatchGroup m)) ∙ fold-roll-Cond (List AttrId) cond_matched (cond.MatchGroup m))
 
   pub none_in_captured : (group : ℕ) → old ≡ old ++ matched_in_cond (Captured group)
   unfolding matched_in_cond

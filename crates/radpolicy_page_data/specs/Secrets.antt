@@ -60,6 +60,7 @@ cond_matched (cond.Any parts) = joined parts
 cond_matched (cond.All parts) = joined parts
 cond_matched (cond.Not part) = part
 cond_matched (cond.Match matching) = matching.id ∷ []
+cond_matched (cond.MatchText matching) = matching.id ∷ []
 cond_matched _ = []
 
 unfoldable pub matched_in_cond : Cond → List AttrId

@@ -21,7 +21,7 @@ fn push_conds(ids: &mut Vec<AttrId>, conds: &[Cond]) -> Result<(), AllocError>
 }
 
 #[cycle(conds)]
-#[tactic(auto, using(crate::proofs::MatchedAttributes::in_any, crate::proofs::MatchedAttributes::in_all, crate::proofs::MatchedAttributes::in_not, crate::proofs::MatchedAttributes::in_match, crate::proofs::MatchedAttributes::none_in_last, crate::proofs::MatchedAttributes::none_in_present, crate::proofs::MatchedAttributes::none_in_present_selected, crate::proofs::MatchedAttributes::none_in_compare, crate::proofs::MatchedAttributes::none_in_compare_meant, crate::proofs::MatchedAttributes::none_in_captured))]
+#[tactic(auto, using(crate::proofs::MatchedAttributes::in_any, crate::proofs::MatchedAttributes::in_all, crate::proofs::MatchedAttributes::in_not, crate::proofs::MatchedAttributes::in_match, crate::proofs::MatchedAttributes::in_match_text, crate::proofs::MatchedAttributes::none_in_last, crate::proofs::MatchedAttributes::none_in_present, crate::proofs::MatchedAttributes::none_in_present_selected, crate::proofs::MatchedAttributes::none_in_compare, crate::proofs::MatchedAttributes::none_in_compare_meant, crate::proofs::MatchedAttributes::none_in_compare_texts, crate::proofs::MatchedAttributes::none_in_match_group, crate::proofs::MatchedAttributes::none_in_captured))]
 fn push_cond(ids: &mut Vec<AttrId>, cond: &Cond) -> Result<(), AllocError>
     ensures { OnOk result (ids.new.items ≡ ids.old.items ++ matched_in_cond cond.now) }
 {
@@ -33,11 +33,17 @@ fn push_cond(ids: &mut Vec<AttrId>, cond: &Cond) -> Result<(), AllocError>
             ids.push(matching.id)?;
             Ok(())
         }
+        Cond::MatchText(matching) => {
+            ids.push(matching.id)?;
+            Ok(())
+        }
         Cond::Last(_)
         | Cond::Present(..)
         | Cond::PresentSelected(..)
         | Cond::Compare(_)
         | Cond::CompareMeant(_)
+        | Cond::CompareTexts(_)
+        | Cond::MatchGroup(_)
         | Cond::Captured(_) => Ok(()),
     }
 }
