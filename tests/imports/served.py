@@ -49,7 +49,8 @@ OF_CLIENT = {"Operator-Name": "1example.com", "add_cui": "yes"}
 KEY = "changeme"
 # Those whose warnings are of nothing that these requests have.
 SURE = (
-    "captures", "captured_by_the_last", "texts_of_absent", "either_of_two_texts", "long_texts", "in_octets", *REWRITING)
+    "captures", "captured_by_the_last", "texts_of_absent", "compared_texts", "compared_captures",
+    "either_of_two_texts", "long_texts", "in_octets", *REWRITING)
 # What a report warns of that is about no request but those of the policies below.
 QUIET = ("long-expansion", "tagged-octets")
 
@@ -124,6 +125,18 @@ WRITTEN: Dict[str, str] = {
     "texts_of_absent": 'if ("%{Calling-Station-Id}" !~ /^00-11/) {\nupdate reply {\nReply-Message += "another"\n}\n}\n'
     'if (!("%{Calling-Station-Id}" =~ /aa/)) {\nupdate reply {\nReply-Message += "no aa"\n}\n}\n'
     'if ("%{Calling-Station-Id}" =~ /^(none)?$/) {\nupdate reply {\nReply-Message += "none"\n}\n}\n',
+    "compared_texts": 'if ("%{Calling-Station-Id}" == "%{reply:Reply-Message}") {\nupdate reply {\nReply-Message += "no station"\n}\n}\n'
+    'if (!("%{Calling-Station-Id}%{NAS-Port}" != "none%{NAS-Port}")) {\nupdate reply {\nReply-Message += "none"\n}\n}\n'
+    'if ("" == "%{NAS-Port}" || &Class) {\nupdate reply {\nReply-Message += "no port or a class"\n}\n}\n'
+    'if ("%{NAS-Port}" < "%{NAS-Port}0" && "0%{NAS-Port}" == "%{NAS-Port}") {\nupdate reply {\nReply-Message += "numbers"\n}\n}\n'
+    'if (!(&Calling-Station-Id == "no%{Service-Type}") || &Class) {\nupdate reply {\nReply-Message += "a station"\n}\n}\n'
+    'if (&Calling-Station-Id < "00-%{NAS-Port}" || "%{Service-Type}" == "Login-User") {\nupdate reply {\n'
+    'Reply-Message += "less, or a login"\n}\n}\n',
+    "compared_captures": 'if (&User-Name =~ /^(.)(.*)$/m) {\nif ("%{1}" == "b" || "%{1}" > "%{2}" || &User-Name == "%{2}") {\n'
+    'update reply {\nReply-Message += "%{1} and %{2}"\n}\n}\nif ("%{2}" =~ /^o(.)$/m) {\nupdate reply {\n'
+    'Reply-Message += "%{0} and %{1}"\n}\n}\nupdate reply {\nReply-Message += "last %{0}"\n}\n}\n'
+    'if (&User-Name =~ /(a)/ && "%{Calling-Station-Id}" !~ /(0)/) {\nupdate reply {\nReply-Message += "no 0"\n}\n}\n'
+    'update reply {\nReply-Message += "at the end %{1}"\n}\n',
     "values_of_any_type": 'if (!(&Class =~ /^0x0b/) && &NAS-Port =~ /^[12]$/m) {\nupdate reply {\n'
     'Reply-Message += "port %{0}"\n}\n}\nif ("%{Service-Type}" =~ /^(Login|)/) {\nupdate reply {\nReply-Message += "to %{1}"\n'
     '}\n}\nif (&Class !~ /^0x[0-9a-f]{2}$/m) {\nupdate reply {\nReply-Message += "a long class"\n}\n}\n',

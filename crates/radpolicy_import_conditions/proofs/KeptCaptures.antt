@@ -18,6 +18,7 @@ use Rattle.avp_unlang.specs.Captures.{Captures, captures_after, captures_in}
 use Rattle.avp_unlang.specs.Evaluations.{Evaluated, decided, evaluated, negated}
 use Rattle.avp_unlang.specs.PatternTruth.{instance_in, is_matched, pattern_in}
 use Rattle.avp_unlang.specs.Resolutions.{meaning_put}
+use Rattle.avp_unlang.specs.Texts.{captures_after_group, captures_after_text, is_group_matched, is_met_by_texts, is_text_matched}
 use Rattle.avp_unlang.specs.Truth.{compared_with, first_value, same_code}
 use Rattle.avp_unlang.specs.declared.codes.Code.{Code}
 use Rattle.avp_unlang.specs.declared.codes.Code.TheVariants.{Ok}
@@ -27,14 +28,17 @@ use Rattle.avp_unlang.specs.declared.tree.Comparison.{Comparison}
 use Rattle.avp_unlang.specs.declared.tree.Cond.{Cond}
 use Rattle.avp_unlang.specs.declared.tree.Cond.TheVariants as ours
 use Rattle.avp_unlang.specs.declared.tree.Matching.{Matching}
-use Rattle.avp_unlang.proofs.EvaluatedConds.{evaluated_all, evaluated_any, evaluated_captured, evaluated_compare, evaluated_last, evaluated_match, evaluated_not, evaluated_present, evaluated_present_selected}
+use Rattle.avp_unlang.specs.declared.tree.TextComparison.{TextComparison}
+use Rattle.avp_unlang.specs.declared.tree.TextSide.{TextSide}
+use Rattle.avp_unlang.specs.declared.tree.TextSide.TheVariants as side
+use Rattle.avp_unlang.proofs.EvaluatedConds.{evaluated_all, evaluated_any, evaluated_captured, evaluated_compare, evaluated_compare_texts, evaluated_last, evaluated_match, evaluated_match_group, evaluated_match_text, evaluated_not, evaluated_present, evaluated_present_selected}
 use Rattle.avp_unlang.proofs.Truths.{found_first}
 use Rattle.radpolicy_import_conditions.specs.Capturing.{Answered, answered, both_answered, either_answered, is_repeatable, keeps_captures, server_evaluated, taken, unchanged}
-use Rattle.radpolicy_import_conditions.specs.Conditions.{Answer, comparison_answer, is_false, is_true, matching_answer}
-use Rattle.radpolicy_import_conditions.specs.internal.Rewriting.{always, before_selected, before_sides, both, both_sides, captures_with, differs, either, either_guarded, guard, guard_of, guard_of_and, implies_present, is_certain, is_right, is_same, is_same_list, is_there, mismatches, never, present_before, rewritten_as, selected, sides}
-use Rattle.radpolicy_import_conditions.specs.declared.server_conditions.ServerCondition.{ServerCondition, Constant, Last, Present, Compare, Match, Captured, Not', And', Or'}
+use Rattle.radpolicy_import_conditions.specs.Conditions.{Answer, comparison_answer, is_false, is_side_there, is_true, matching_answer, texts_answer}
+use Rattle.radpolicy_import_conditions.specs.internal.Rewriting.{always, before_selected, before_sides, both, both_sides, captures_with, differs, either, either_guarded, guard, guard_of, guard_of_and, implies_present, is_certain, is_right, is_same, is_same_list, is_text, is_there, mismatches, never, present_before, rewritten_as, selected, sides, texts_differ, with_side}
+use Rattle.radpolicy_import_conditions.specs.declared.server_conditions.ServerCondition.{ServerCondition, Constant, Last, Present, Compare, Match, CompareTexts, MatchText, MatchGroup, Captured, Not', And', Or'}
 use Rattle.radpolicy_import_conditions.proofs.Repeated.{repeated}
-use Rattle.radpolicy_import_conditions.proofs.Truths.{answer_instance, answer_literal, false_not, found_selected, is_answered, left_present, matched_present, matched_there, met_by, moved_present, related, right_present, selected_instance, some_answered, true_not}
+use Rattle.radpolicy_import_conditions.proofs.Truths.{answer_instance, answer_literal, false_not, found_selected, is_answered, left_present, matched_present, matched_there, met_by, moved_present, related, right_present, selected_instance, some_answered, texts_there, true_not}
 
 and_left : (a b : Bool) → IsTrue (a && b) → IsTrue a
 and_left true b h = refl
@@ -205,6 +209,39 @@ module _ (d : Dictionary) (s : State) (c : Code) where
       (not_by (ours.Match m) k (decided (is_true a) (captures_after d m s k)) (matched_here m k))
       ∙ mismatched_by there (is_matched d m s) k (captures_after d m s k) (stays m k)
 
+  -- ---- comparisons of texts
+
+  abbrev texts-answer-of : TextComparison → Captures → Answer
+  texts-answer-of k captures = texts_answer (λ texts state. is_met_by_texts d texts state captures) k s
+
+  texts_here : (k : TextComparison) (captures : Captures) → Eval (ours.CompareTexts k) captures ≡ decided (is_true (texts-answer-of k captures)) captures
+  texts_here k captures =
+      evaluated_compare_texts d k s c captures
+      ∙ ap (λ b. decided b captures) (is_answered (is_side_there k.left s) (is_met_by_texts d k s captures) (texts_there d captures k s))
+
+  side_by : (there : Bool) (met : Bool) (k : Captures)
+      → cond there (decided (not met) k) (decided there k) ≡ decided (is_false (cond there (Some met) None)) k
+  side_by true met k = refl
+  side_by false met k = refl
+
+  with_side_here : (left : TextSide) (x : Cond) (met : Bool) (k : Captures) → Eval x k ≡ decided (not met) k
+      → Eval (with_side left x) k ≡ decided (is_false (cond (is_side_there left s) (Some met) None)) k
+  with_side_here (side.Text parts) x met k h = h
+  with_side_here (side.Instance list id selection) x met k h =
+      let there = has_selected selection id (list_of list s) in
+      both_by (selected list id selection) x k (decided there k) (decided (not met) k) (selected_here list id selection k) h
+      ∙ side_by there met k
+
+  texts_differ_here : (k : TextComparison) (captures : Captures) → Eval (texts_differ k) captures ≡ decided (is_false (texts-answer-of k captures)) captures
+  texts_differ_here k captures =
+      let met = is_met_by_texts d k s captures in
+      with_side_here k.left (ours.Not (ours.CompareTexts k)) met captures
+      (not_by (ours.CompareTexts k) captures (decided met captures) (evaluated_compare_texts d k s c captures))
+
+  texts_certain : (left : TextSide) (met : Bool) → IsTrue (is_text left) → is_some (cond (is_side_there left s) (Some met) None) ≡ true
+  texts_certain (side.Text parts) met h = refl
+  texts_certain (side.Instance list id selection) met h = absurd (true≢false (sym h))
+
   -- ---- what conditions imply
 
   abbrev Answer-of : ServerCondition → Captures → Answered
@@ -224,6 +261,9 @@ module _ (d : Dictionary) (s : State) (c : Code) where
   certain (Present list id) h k = refl
   certain (Compare comparison) h k = absurd (true≢false (sym h))
   certain (Match matching) h k = absurd (true≢false (sym h))
+  certain (CompareTexts comparison) h k = texts_certain comparison.left (is_met_by_texts d comparison s k) h
+  certain (MatchText matching) h k = refl
+  certain (MatchGroup matching) h k = refl
   certain (Captured group) h k = refl
   certain (Not' p inner) h k = some_not (Answer-of inner k).answer (certain inner h k)
   certain (And' p first q next) h k =
@@ -285,6 +325,9 @@ module _ (d : Dictionary) (s : State) (c : Code) where
         (λ e. right_here comparison.comparand comparison refl e met)
     implied (Match matching) h k met =
         matched_present (met_by d) matching list id s (same_list matching.list list (and_left _ _ h)) (same_id matching.id id (and_right _ _ h)) met
+    implied (CompareTexts comparison) h k met = absurd (true≢false (sym h))
+    implied (MatchText matching) h k met = absurd (true≢false (sym h))
+    implied (MatchGroup matching) h k met = absurd (true≢false (sym h))
     implied (Captured group) h k met = absurd (true≢false (sym h))
     implied (Not' p inner) h k met = absurd (true≢false (sym h))
     implied (And' p first q next) h k met =
@@ -317,6 +360,9 @@ module _ (d : Dictionary) (s : State) (c : Code) where
         (λ there. moved_present m.list list m.id id s (same_list m.list list (and_left _ _ h)) (same_id m.id id (and_right _ _ h))
         (selected_instance m.selection m.id (list_of m.list s) there))
         absent)
+    captured_with (CompareTexts comparison) h absent k = refl
+    captured_with (MatchText matching) h absent k = absurd (true≢false (sym h))
+    captured_with (MatchGroup matching) h absent k = absurd (true≢false (sym h))
     captured_with (Captured group) h absent k = refl
     captured_with (Not' p inner) h absent k = captured_with inner h absent k
     captured_with (And' p first q next) h absent k =
@@ -502,6 +548,14 @@ module _ (d : Dictionary) (s : State) (c : Code) where
   kept (Compare comparison) h false k = differs_here comparison k
   kept (Match matching) h true k = matched_here matching k
   kept (Match matching) h false k = mismatched_here matching k
+  kept (CompareTexts comparison) h true k = texts_here comparison k
+  kept (CompareTexts comparison) h false k = texts_differ_here comparison k
+  kept (MatchText matching) h true k = evaluated_match_text d matching s c k
+  kept (MatchText matching) h false k =
+      not_by (ours.MatchText matching) k (decided (is_text_matched d matching s) (captures_after_text d matching s)) (evaluated_match_text d matching s c k)
+  kept (MatchGroup matching) h true k = evaluated_match_group d matching s c k
+  kept (MatchGroup matching) h false k =
+      not_by (ours.MatchGroup matching) k (decided (is_group_matched matching k) (captures_after_group matching k)) (evaluated_match_group d matching s c k)
   kept (Captured group) h true k = evaluated_captured d group s c k
   kept (Captured group) h false k =
       not_by (ours.Captured group) k (Taken (Captured group) k) (evaluated_captured d group s c k)

@@ -14,9 +14,11 @@ use Rattle.avp_unlang.specs.declared.tree.Cond.{Cond}
 use Rattle.avp_unlang.specs.declared.tree.Cond.TheFolds.{fold-roll-Cond, ind-Cond, map-Cond}
 use Rattle.avp_unlang.specs.declared.tree.Cond.TheOpen.{Cond-F}
 use Rattle.avp_unlang.specs.declared.tree.Cond.TheOpen as layer
-use Rattle.avp_unlang.specs.declared.tree.Cond.TheVariants.{Any, All, Not, Last, Present, Compare, Match, Captured, rolls-Any, rolls-All, rolls-Not, rolls-Last, rolls-Present, rolls-Compare, rolls-Match, rolls-Captured}
+use Rattle.avp_unlang.specs.declared.tree.Cond.TheVariants.{Any, All, Not, Last, Present, Compare, CompareTexts, Match, MatchText, MatchGroup, Captured, rolls-Any, rolls-All, rolls-Not, rolls-Last, rolls-Present, rolls-Compare, rolls-CompareTexts, rolls-Match, rolls-MatchText, rolls-MatchGroup, rolls-Captured}
 use Rattle.avp_unlang.specs.declared.tree.Cond.TheViews.{out-Cond, out-roll-Cond, roll-Cond, roll-out-Cond}
+use Rattle.avp_unlang.specs.declared.tree.GroupMatching.{GroupMatching}
 use Rattle.avp_unlang.specs.declared.tree.Matching.{Matching}
+use Rattle.avp_unlang.specs.declared.tree.TextComparison.{TextComparison}
 use Rattle.radpolicy_import_conditions.specs.Opened.{opened, opened_layer, opened_parts, parts, parts_in}
 use Rattle.radpolicy_import_conditions.specs.declared.printing.Join.{Join}
 use Rattle.radpolicy_import_conditions.specs.declared.printing.Join.TheVariants.{And, Or}
@@ -56,6 +58,15 @@ opened_Compare c = opened_as (layer.Compare c) (Compare c) (sym (rolls-Compare c
 pub opened_Match : (m : Matching) → opened (Match m) ≡ Match m
 opened_Match m = opened_as (layer.Match m) (Match m) (sym (rolls-Match m)) ∙ rolls-Match m
 
+pub opened_CompareTexts : (c : TextComparison) → opened (CompareTexts c) ≡ CompareTexts c
+opened_CompareTexts c = opened_as (layer.CompareTexts c) (CompareTexts c) (sym (rolls-CompareTexts c)) ∙ rolls-CompareTexts c
+
+pub opened_MatchText : (m : Matching) → opened (MatchText m) ≡ MatchText m
+opened_MatchText m = opened_as (layer.MatchText m) (MatchText m) (sym (rolls-MatchText m)) ∙ rolls-MatchText m
+
+pub opened_MatchGroup : (m : GroupMatching) → opened (MatchGroup m) ≡ MatchGroup m
+opened_MatchGroup m = opened_as (layer.MatchGroup m) (MatchGroup m) (sym (rolls-MatchGroup m)) ∙ rolls-MatchGroup m
+
 pub opened_Captured : (group : ℕ) → opened (Captured group) ≡ Captured group
 opened_Captured group = opened_as (layer.Captured group) (Captured group) (sym (rolls-Captured group)) ∙ rolls-Captured group
 
@@ -84,6 +95,15 @@ module _ (k other : Cond) where
   pub told_Match : (a b : Matching) → k ≡ Match a → other ≡ Match b → b ≡ a → other ≡ opened k
   told_Match a b is are h = are ∙ ap Match h ∙ sym (opened_Match a) ∙ ap opened (sym is)
 
+  pub told_CompareTexts : (a b : TextComparison) → k ≡ CompareTexts a → other ≡ CompareTexts b → b ≡ a → other ≡ opened k
+  told_CompareTexts a b is are h = are ∙ ap CompareTexts h ∙ sym (opened_CompareTexts a) ∙ ap opened (sym is)
+
+  pub told_MatchText : (a b : Matching) → k ≡ MatchText a → other ≡ MatchText b → b ≡ a → other ≡ opened k
+  told_MatchText a b is are h = are ∙ ap MatchText h ∙ sym (opened_MatchText a) ∙ ap opened (sym is)
+
+  pub told_MatchGroup : (a b : GroupMatching) → k ≡ MatchGroup a → other ≡ MatchGroup b → b ≡ a → other ≡ opened k
+  told_MatchGroup a b is are h = are ∙ ap MatchGroup h ∙ sym (opened_MatchGroup a) ∙ ap opened (sym is)
+
   pub told_Captured : (a b : ℕ) → k ≡ Captured a → other ≡ Captured b → b ≡ a → other ≡ opened k
   told_Captured a b is are h = are ∙ ap Captured h ∙ sym (opened_Captured a) ∙ ap opened (sym is)
 
@@ -103,6 +123,17 @@ same_matchings a b e f g h i j =
     ∙ ap (λ z. record b { list = a.list; id = a.id; selection = a.selection; negated = z }) (sym h)
     ∙ ap (λ z. record b { list = a.list; id = a.id; selection = a.selection; negated = a.negated; pattern = z }) (sym i)
     ∙ ap (λ z. record a { flags = z }) (sym j)
+
+pub same_group_matchings : (a b : GroupMatching) → a.group ≡ b.group → a.negated ≡ b.negated → b.pattern ≡ a.pattern → b.flags ≡ a.flags → b ≡ a
+same_group_matchings a b e f g h =
+    ap (λ z. record b { group = z }) (sym e) ∙ ap (λ z. record b { group = a.group; negated = z }) (sym f)
+    ∙ ap (λ z. record b { group = a.group; negated = a.negated; pattern = z }) g
+    ∙ ap (λ z. record a { flags = z }) h
+
+pub same_text_comparisons : (a b : TextComparison) → b.left ≡ a.left → a.relation ≡ b.relation → b.right ≡ a.right → b ≡ a
+same_text_comparisons a b e f g =
+    ap (λ z. record b { left = z }) e ∙ ap (λ z. record b { left = a.left; relation = z }) (sym f)
+    ∙ ap (λ z. record a { right = z }) g
 
 -- ---- the one of a list
 
@@ -155,6 +186,9 @@ module _ (k : Cond) where
   in_or (layer.Compare c) e never = alone Or k (layer.Compare c) (opened_as (layer.Compare c) k e) refl
   in_or (layer.CompareMeant c) e never = alone Or k (layer.CompareMeant c) (opened_as (layer.CompareMeant c) k e) refl
   in_or (layer.Match m) e never = alone Or k (layer.Match m) (opened_as (layer.Match m) k e) refl
+  in_or (layer.CompareTexts m) e never = alone Or k (layer.CompareTexts m) (opened_as (layer.CompareTexts m) k e) refl
+  in_or (layer.MatchText m) e never = alone Or k (layer.MatchText m) (opened_as (layer.MatchText m) k e) refl
+  in_or (layer.MatchGroup m) e never = alone Or k (layer.MatchGroup m) (opened_as (layer.MatchGroup m) k e) refl
   in_or (layer.Captured group) e never = alone Or k (layer.Captured group) (opened_as (layer.Captured group) k e) refl
 
   in_and : (x : Cond-F Cond) → k ≡ roll-Cond x → ((ks : List Cond) → k ≡ All ks → ⊥) → Alone And
@@ -167,6 +201,9 @@ module _ (k : Cond) where
   in_and (layer.Compare c) e never = alone And k (layer.Compare c) (opened_as (layer.Compare c) k e) refl
   in_and (layer.CompareMeant c) e never = alone And k (layer.CompareMeant c) (opened_as (layer.CompareMeant c) k e) refl
   in_and (layer.Match m) e never = alone And k (layer.Match m) (opened_as (layer.Match m) k e) refl
+  in_and (layer.CompareTexts m) e never = alone And k (layer.CompareTexts m) (opened_as (layer.CompareTexts m) k e) refl
+  in_and (layer.MatchText m) e never = alone And k (layer.MatchText m) (opened_as (layer.MatchText m) k e) refl
+  in_and (layer.MatchGroup m) e never = alone And k (layer.MatchGroup m) (opened_as (layer.MatchGroup m) k e) refl
   in_and (layer.Captured group) e never = alone And k (layer.Captured group) (opened_as (layer.Captured group) k e) refl
 
   pub one_in_or : ((ks : List Cond) → k ≡ Any ks → ⊥) → Alone Or
@@ -271,6 +308,9 @@ module _ (d : Dictionary) (s : State) (c : Code) where
     by (layer.Compare comparison) e = single
     by (layer.CompareMeant comparison) e = single
     by (layer.Match matching) e = single
+    by (layer.CompareTexts comparison) e = single
+    by (layer.MatchText matching) e = single
+    by (layer.MatchGroup matching) e = single
     by (layer.Captured group) e = single
 
   all_parts : (m : Cond) (k : Captures) → all_of (parts And m) k ≡ ev m s c k
@@ -288,6 +328,9 @@ module _ (d : Dictionary) (s : State) (c : Code) where
     by (layer.Compare comparison) e = single
     by (layer.CompareMeant comparison) e = single
     by (layer.Match matching) e = single
+    by (layer.CompareTexts comparison) e = single
+    by (layer.MatchText matching) e = single
+    by (layer.MatchGroup matching) e = single
     by (layer.Captured group) e = single
 
   abbrev IsAlike : Cond → Type 0
@@ -337,6 +380,9 @@ module _ (d : Dictionary) (s : State) (c : Code) where
   layer_alike (layer.Compare comparison) k = refl
   layer_alike (layer.CompareMeant comparison) k = refl
   layer_alike (layer.Match matching) k = refl
+  layer_alike (layer.CompareTexts comparison) k = refl
+  layer_alike (layer.MatchText matching) k = refl
+  layer_alike (layer.MatchGroup matching) k = refl
   layer_alike (layer.Captured group) k = refl
 
   rolled : (x : Cond-F Cond) → ((k : Captures) → ev (opened_layer (map-Cond Cond Cond opened x)) s c k ≡ ev (roll-Cond x) s c k) → IsAlike (roll-Cond x)

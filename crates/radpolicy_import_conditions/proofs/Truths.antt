@@ -1,7 +1,8 @@
 -- What our conditions come to, and a server's.
 use Rattle.std.proofs.Common.{◌≡◌, ℕ, Bool, true, false, not, ◌&&◌, ◌||◌, ◌++◌, List, [], ◌∷◌, Option, Some, None, IsTrue, refl, sym, ap, ◌∙◌, cond, filter, is_some}
 use Rattle.std.specs.List.{list_all, list_any}
-use Rattle.std.specs.Option.{option_map, option_map_or}
+use Rattle.std.specs.Option.{option_and_then, option_map, option_map_or}
+use Rattle.std.specs.declared.cmp.Ordering.{Ordering}
 use Rattle.avp_lists.specs.Instances.{first_instance, front, has_id, has_instance}
 use Rattle.avp_lists.specs.Selections.{first_selected_instance, has_selected}
 use Rattle.avp_lists.specs.States.{list_of}
@@ -15,67 +16,91 @@ use Rattle.avp_lists.specs.declared.tags.Selection.{Selection}
 use Rattle.avp_lists.specs.declared.tags.Selection.TheVariants as selections
 use Rattle.avp_dict.specs.Dictionary.{Dictionary}
 use Rattle.avp_dict.specs.declared.entries.Kind.{Kind}
+use Rattle.avp_unlang.specs.Captures.{Captures, no_captures}
 use Rattle.avp_unlang.specs.PatternTruth.{agrees, instance_in, is_matched}
+use Rattle.avp_unlang.specs.References.{type_of}
+use Rattle.avp_unlang.specs.Relations.{meets}
 use Rattle.avp_unlang.specs.Resolutions.{meaning_put}
-use Rattle.avp_unlang.specs.Truth.{are_related, compared_with, first_value, is_met, never_matched, same_code, truth, truth_by, value_in}
+use Rattle.avp_unlang.specs.Texts.{filled_text, is_met_by_texts, octets_order, order_beside, own_octets, text_beside}
+use Rattle.avp_unlang.specs.Truth.{are_related, compared_with, first_value, is_met, never_matched, nothing_printed, printed_by, same_code, truth, truth_by, value_in}
 use Rattle.avp_unlang.specs.declared.codes.Code.{Code}
 use Rattle.avp_unlang.specs.declared.tree.Comparand.TheVariants as comparand
 use Rattle.avp_unlang.specs.declared.tree.Comparison.{Comparison}
 use Rattle.avp_unlang.specs.declared.tree.Cond.{Cond}
-use Rattle.avp_unlang.specs.declared.tree.Cond.TheVariants.{Any, All, Not, Last, Present, PresentSelected, Compare, Match, Captured}
+use Rattle.avp_unlang.specs.declared.tree.Cond.TheVariants.{Any, All, Not, Last, Present, PresentSelected, Compare, CompareTexts, Match, MatchText, MatchGroup, Captured}
+use Rattle.avp_unlang.specs.declared.tree.GroupMatching.{GroupMatching}
 use Rattle.avp_unlang.specs.declared.tree.Matching.{Matching}
+use Rattle.avp_unlang.specs.declared.tree.Part.{Part}
 use Rattle.avp_unlang.specs.declared.tree.Relation.{Relation}
-use Rattle.avp_unlang.proofs.Truths.{given_any, given_all, given_captured, given_compare, given_last, given_match, given_not, given_present, given_present_selected}
-use Rattle.radpolicy_import_conditions.specs.Conditions.{Answer, both, either, compared, comparison_answer, is_true, is_false, matching_answer}
+use Rattle.avp_unlang.specs.declared.tree.TextComparison.{TextComparison}
+use Rattle.avp_unlang.specs.declared.tree.TextSide.{TextSide}
+use Rattle.avp_unlang.specs.declared.tree.TextSide.TheVariants as side
+use Rattle.avp_unlang.proofs.Truths.{given_any, given_all, given_captured, given_compare, given_compare_texts, given_last, given_match, given_match_group, given_match_text, given_not, given_present, given_present_selected}
+use Rattle.radpolicy_import_conditions.specs.Conditions.{Answer, both, either, compared, comparison_answer, is_side_there, is_true, is_false, matching_answer, texts_answer}
 use Rattle.radpolicy_import_conditions.specs.internal.Guards.{Matches, truth_of}
 
 -- ---- the truth of each kind of condition, whichever comparisons with patterns are met
 
 truth_of_any : (m : Matches) (cs : List Cond) (s : State) (c : Code) → truth_of m (Any cs) s c ≡ list_any (λ cond. truth_of m cond s c) cs
 unfolding truth_of
-truth_of_any m = given_any m.is_met
+truth_of_any m = given_any m.printed
 
 truth_of_all : (m : Matches) (cs : List Cond) (s : State) (c : Code) → truth_of m (All cs) s c ≡ list_all (λ cond. truth_of m cond s c) cs
 unfolding truth_of
-truth_of_all m = given_all m.is_met
+truth_of_all m = given_all m.printed
 
 truth_of_not : (m : Matches) (d : Cond) (s : State) (c : Code) → truth_of m (Not d) s c ≡ not (truth_of m d s c)
 unfolding truth_of
-truth_of_not m = given_not m.is_met
+truth_of_not m = given_not m.printed
 
 truth_of_last : (m : Matches) (word : Code) (s : State) (c : Code) → truth_of m (Last word) s c ≡ same_code c word
 unfolding truth_of
-truth_of_last m = given_last m.is_met
+truth_of_last m = given_last m.printed
 
 truth_of_present : (m : Matches) (list : Name) (id : AttrId) (s : State) (c : Code)
     → truth_of m (Present list id) s c ≡ is_some (first_instance id (list_of list s))
 unfolding truth_of
-truth_of_present m = given_present m.is_met
+truth_of_present m = given_present m.printed
 
 truth_of_present_selected : (m : Matches) (list : Name) (id : AttrId) (selection : Selection) (s : State) (c : Code)
     → truth_of m (PresentSelected list id selection) s c ≡ is_some (first_selected_instance selection id (list_of list s))
 unfolding truth_of
-truth_of_present_selected m = given_present_selected m.is_met
+truth_of_present_selected m = given_present_selected m.printed
 
 truth_of_compare : (m : Matches) (k : Comparison) (s : State) (c : Code) → truth_of m (Compare k) s c ≡ is_met k s
 unfolding truth_of
-truth_of_compare m = given_compare m.is_met
+truth_of_compare m = given_compare m.printed
 
-truth_of_match : (m : Matches) (k : Matching) (s : State) (c : Code) → truth_of m (Match k) s c ≡ m.is_met k s
+truth_of_match : (m : Matches) (k : Matching) (s : State) (c : Code) → truth_of m (Match k) s c ≡ m.printed.matched k s
 unfolding truth_of
-truth_of_match m = given_match m.is_met
+truth_of_match m = given_match m.printed
+
+truth_of_texts : (m : Matches) (k : TextComparison) (s : State) (c : Code) → truth_of m (CompareTexts k) s c ≡ m.printed.texts k s
+unfolding truth_of
+truth_of_texts m = given_compare_texts m.printed
+
+truth_of_match_text : (m : Matches) (k : Matching) (s : State) (c : Code) → truth_of m (MatchText k) s c ≡ m.printed.text_matched k s
+unfolding truth_of
+truth_of_match_text m = given_match_text m.printed
+
+truth_of_match_group : (m : Matches) (k : GroupMatching) (s : State) (c : Code) → truth_of m (MatchGroup k) s c ≡ m.printed.group_matched k
+unfolding truth_of
+truth_of_match_group m = given_match_group m.printed
 
 truth_of_captured : (m : Matches) (group : ℕ) (s : State) (c : Code) → truth_of m (Captured group) s c ≡ false
 unfolding truth_of
-truth_of_captured m = given_captured m.is_met
+truth_of_captured m = given_captured m.printed
 
 -- ---- two sets of them
 
 pub never_there : (k : Matching) (s : State) → IsTrue (never_matched k s) → IsTrue (has_selected k.selection k.id (list_of k.list s))
 never_there k s h = cc
 
+pub no_text_there : (k : TextComparison) (s : State) → IsTrue (nothing_printed.texts k s) → IsTrue (is_side_there k.left s)
+no_text_there k s h = cc
+
 abbrev pub none_met : Matches
-none_met = record { is_met = never_matched; is_there = never_there }
+none_met = record { printed = nothing_printed; is_there = never_there; is_text_there = no_text_there }
 
 pub truth_of_none : (cond : Cond) (s : State) (c : Code) → truth cond s c ≡ truth_of none_met cond s c
 unfolding truth truth_of
@@ -99,10 +124,27 @@ pub matched_there : (d : Dictionary) (k : Matching) (s : State) → IsTrue (is_m
 matched_there d k s h =
     found_selected (is_selected k.selection k.id) (list_of k.list s) ∙ instance_there k d (instance_in k s) h
 
+ordered_there : (octets : Pair → Option (List ℕ)) (beside : Option (List ℕ)) (is_met : Ordering → Bool) (x : Option Pair)
+    → IsTrue (option_map_or is_met (octets_order (option_and_then octets x) beside) false) → IsTrue (is_some x)
+ordered_there octets beside is_met None h = h
+ordered_there octets beside is_met (Some x) h = refl
+
+side_there : (d : Dictionary) (captures : Captures) (side : TextSide) (is_met : Ordering → Bool) (text : List ℕ) (s : State)
+    → IsTrue (option_map_or is_met (order_beside d s captures side text) false) → IsTrue (is_side_there side s)
+side_there d captures (side.Text parts) is_met text s h = refl
+side_there d captures (side.Instance list id selection) is_met text s h =
+    found_selected (is_selected selection id) (list_of list s)
+    ∙ ordered_there (λ pair. own_octets pair.value) (text_beside (type_of d id) text) is_met (first_selected_instance selection id (list_of list s)) h
+
+pub texts_there : (d : Dictionary) (captures : Captures) (k : TextComparison) (s : State) → IsTrue (is_met_by_texts d k s captures)
+    → IsTrue (is_side_there k.left s)
+texts_there d captures k s h = side_there d captures k.left (meets k.relation) (filled_text d s captures k.right) s h
+
 abbrev pub met_by : Dictionary → Matches
 met_by d = record {
-  is_met = is_matched d;
+  printed = printed_by d;
   is_there = matched_there d;
+  is_text_there = texts_there d no_captures;
 }
 
 pub truth_of_by : (d : Dictionary) (cond : Cond) (s : State) (c : Code) → truth_by d cond s c ≡ truth_of (met_by d) cond s c
@@ -435,34 +477,78 @@ there_answered true met h = refl
 there_answered false met h = h
 
 pub match_copied : (m : Matches) (k copy : Matching) (s : State) (c : Code) → copy ≡ k
-    → truth_of m (Match copy) s c ≡ is_true (matching_answer m.is_met k s)
+    → truth_of m (Match copy) s c ≡ is_true (matching_answer m.printed.matched k s)
 match_copied m k copy s c e =
     ap (λ x. truth_of m (Match x) s c) e ∙ truth_of_match m k s c
-    ∙ is_answered (has_selected k.selection k.id (list_of k.list s)) (m.is_met k s) (m.is_there k s)
+    ∙ is_answered (has_selected k.selection k.id (list_of k.list s)) (m.printed.matched k s) (m.is_there k s)
 
 pub mismatch_of : (m : Matches) (k copy : Matching) (s : State) (c : Code) (z x y : Bool) → copy ≡ k → z ≡ (x && y)
     → x ≡ has_selected k.selection k.id (list_of k.list s) → y ≡ not (truth_of m (Match copy) s c)
-    → z ≡ is_false (matching_answer m.is_met k s)
+    → z ≡ is_false (matching_answer m.printed.matched k s)
 mismatch_of m k copy s c z x y same e there unmet =
-    let is_unmet : y ≡ not (m.is_met k s) = unmet ∙ ap (λ w. not (truth_of m (Match w) s c)) same ∙ ap not (truth_of_match m k s c) in
+    let is_unmet : y ≡ not (m.printed.matched k s) = unmet ∙ ap (λ w. not (truth_of m (Match w) s c)) same ∙ ap not (truth_of_match m k s c) in
     e ∙ ap (λ w. w && y) there ∙ ap (λ w. has_selected k.selection k.id (list_of k.list s) && w) is_unmet
-    ∙ unanswered (has_selected k.selection k.id (list_of k.list s)) (m.is_met k s)
+    ∙ unanswered (has_selected k.selection k.id (list_of k.list s)) (m.printed.matched k s)
 
 pub matched_present : (m : Matches) (k : Matching) (list : Name) (id : AttrId) (s : State) → k.list ≡ list → k.id ≡ id
-    → IsTrue (is_true (matching_answer m.is_met k s)) → IsTrue (has_instance id (list_of list s))
+    → IsTrue (is_true (matching_answer m.printed.matched k s)) → IsTrue (has_instance id (list_of list s))
 matched_present m k list id s e f h =
     moved_present k.list list k.id id s e f
-    (selected_instance k.selection k.id (list_of k.list s) (there_answered (has_selected k.selection k.id (list_of k.list s)) (m.is_met k s) h))
+    (selected_instance k.selection k.id (list_of k.list s) (there_answered (has_selected k.selection k.id (list_of k.list s)) (m.printed.matched k s) h))
 
 -- before a condition: all instances
 pub matched_before : (m : Matches) (k : Matching) (s : State) (g t : Bool) → k.selection ≡ selections.All
-    → (g && t) ≡ (has_instance k.id (list_of k.list s) && t) → (g && t) ≡ (is_some (matching_answer m.is_met k s) && t)
+    → (g && t) ≡ (has_instance k.id (list_of k.list s) && t) → (g && t) ≡ (is_some (matching_answer m.printed.matched k s) && t)
 matched_before m k s g t e h =
     h ∙ ap (λ x. has_selected x k.id (list_of k.list s) && t) (sym e)
-    ∙ ap (λ b. b && t) (sym (some_answered (has_selected k.selection k.id (list_of k.list s)) (m.is_met k s)))
+    ∙ ap (λ b. b && t) (sym (some_answered (has_selected k.selection k.id (list_of k.list s)) (m.printed.matched k s)))
 
 -- those that are meant
 pub matched_here : (m : Matches) (k : Matching) (s : State) (g t : Bool) → g ≡ has_selected k.selection k.id (list_of k.list s)
-    → (g && t) ≡ (is_some (matching_answer m.is_met k s) && t)
+    → (g && t) ≡ (is_some (matching_answer m.printed.matched k s) && t)
 matched_here m k s g t e =
-    ap (λ b. b && t) (e ∙ sym (some_answered (has_selected k.selection k.id (list_of k.list s)) (m.is_met k s)))
+    ap (λ b. b && t) (e ∙ sym (some_answered (has_selected k.selection k.id (list_of k.list s)) (m.printed.matched k s)))
+
+-- ---- comparisons of texts
+
+pub texts_copied : (m : Matches) (k copy : TextComparison) (s : State) (c : Code) → copy ≡ k
+    → truth_of m (CompareTexts copy) s c ≡ is_true (texts_answer m.printed.texts k s)
+texts_copied m k copy s c e =
+    ap (λ x. truth_of m (CompareTexts x) s c) e ∙ truth_of_texts m k s c
+    ∙ is_answered (is_side_there k.left s) (m.printed.texts k s) (m.is_text_there k s)
+
+pub text_match_copied : (m : Matches) (k copy : Matching) (s : State) (c : Code) → copy ≡ k
+    → truth_of m (MatchText copy) s c ≡ m.printed.text_matched k s
+text_match_copied m k copy s c e = ap (λ x. truth_of m (MatchText x) s c) e ∙ truth_of_match_text m k s c
+
+pub group_match_copied : (m : Matches) (k copy : GroupMatching) (s : State) (c : Code) → copy ≡ k
+    → truth_of m (MatchGroup copy) s c ≡ m.printed.group_matched k
+group_match_copied m k copy s c e = ap (λ x. truth_of m (MatchGroup x) s c) e ∙ truth_of_match_group m k s c
+
+pub unmet_texts_copy : (m : Matches) (k copy : TextComparison) (s : State) (c : Code) (z : Bool) → copy ≡ k
+    → z ≡ not (truth_of m (CompareTexts copy) s c) → z ≡ not (m.printed.texts k s)
+unmet_texts_copy m k copy s c z same e = e ∙ ap (λ x. not (truth_of m (CompareTexts x) s c)) same ∙ ap not (truth_of_texts m k s c)
+
+pub text_mismatch_of : (m : Matches) (k copy : Matching) (s : State) (c : Code) (z : Bool) → copy ≡ k
+    → z ≡ not (truth_of m (MatchText copy) s c) → z ≡ not (m.printed.text_matched k s)
+text_mismatch_of m k copy s c z same e = e ∙ ap not (text_match_copied m k copy s c same)
+
+pub group_mismatch_of : (m : Matches) (k copy : GroupMatching) (s : State) (c : Code) (z : Bool) → copy ≡ k
+    → z ≡ not (truth_of m (MatchGroup copy) s c) → z ≡ not (m.printed.group_matched k)
+group_mismatch_of m k copy s c z same e = e ∙ ap not (group_match_copied m k copy s c same)
+
+pub texts_differ_of : (m : Matches) (k : TextComparison) (parts : List Part) (s : State) (z : Bool) → k.left ≡ side.Text parts
+    → z ≡ not (m.printed.texts k s) → z ≡ is_false (texts_answer m.printed.texts k s)
+texts_differ_of m k parts s z h e =
+    e ∙ ap (λ x. is_false (cond (is_side_there x s) (Some (m.printed.texts k s)) None)) (sym h)
+
+pub instance_differs_of : (m : Matches) (k : TextComparison) (list : Name) (id : AttrId) (selection : Selection) (s : State) (z x y : Bool)
+    → k.left ≡ side.Instance list id selection → z ≡ (x && y) → x ≡ has_selected selection id (list_of list s)
+    → y ≡ not (m.printed.texts k s) → z ≡ is_false (texts_answer m.printed.texts k s)
+instance_differs_of m k list id selection s z x y h e there unmet =
+    e ∙ ap (λ w. w && y) (there ∙ ap (λ w. is_side_there w s) (sym h)) ∙ ap (λ w. is_side_there k.left s && w) unmet
+    ∙ unanswered (is_side_there k.left s) (m.printed.texts k s)
+
+pub texts_answered : (m : Matches) (k : TextComparison) (s : State) → is_side_there k.left s ≡ true
+    → is_some (texts_answer m.printed.texts k s) ≡ true
+texts_answered m k s h = some_answered (is_side_there k.left s) (m.printed.texts k s) ∙ h

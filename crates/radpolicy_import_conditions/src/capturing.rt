@@ -1,16 +1,21 @@
 //! What conditions capture, and which of them look at it.
 
 ghost use Rattle.std.specs.Prelude.{◌≡◌};
+ghost use Rattle.std.specs.List.{list_any};
+ghost use Rattle.avp_unlang.specs.Evaluations.{is_capture, side_has_captures};
 ghost use Rattle.radpolicy_import_conditions.specs.Capturing.{has_pattern, is_repeatable, keeps_captures, uses_captures};
 
 use crate::server_conditions::ServerCondition;
+use avp_unlang::{Part, TextSide};
 
 /// Whether a condition compares with a regular expression.
 pub fn has_pattern(condition: &ServerCondition) -> bool
     ensures { result ≡ has_pattern condition.now }
 {
     match condition {
-        ServerCondition::Match(_) => true,
+        ServerCondition::Match(_)
+        | ServerCondition::MatchText(_)
+        | ServerCondition::MatchGroup(_) => true,
         ServerCondition::Not(inner) => has_pattern(inner),
         ServerCondition::And(first, next) | ServerCondition::Or(first, next) => {
             has_pattern(first) || has_pattern(next)
@@ -19,12 +24,31 @@ pub fn has_pattern(condition: &ServerCondition) -> bool
     }
 }
 
+// Whether something of a text is what was captured.
+fn has_captures(parts: &[Part]) -> bool
+    ensures { result ≡ list_any is_capture parts.now }
+{
+    parts.iter().any(|part| matches!(part, Part::Capture(_)))
+}
+
+fn side_has_captures(side: &TextSide) -> bool
+    ensures { result ≡ side_has_captures side.now }
+{
+    match side {
+        TextSide::Text(parts) => has_captures(parts.as_slice()),
+        TextSide::Instance(..) => false,
+    }
+}
+
 /// Whether a condition looks at what was captured.
 pub fn uses_captures(condition: &ServerCondition) -> bool
     ensures { result ≡ uses_captures condition.now }
 {
     match condition {
-        ServerCondition::Captured(_) => true,
+        ServerCondition::Captured(_) | ServerCondition::MatchGroup(_) => true,
+        ServerCondition::CompareTexts(comparison) => {
+            side_has_captures(&comparison.left) || has_captures(comparison.right.as_slice())
+        }
         ServerCondition::Not(inner) => uses_captures(inner),
         ServerCondition::And(first, next) | ServerCondition::Or(first, next) => {
             uses_captures(first) || uses_captures(next)
@@ -57,7 +81,9 @@ pub fn keeps_captures(condition: &ServerCondition) -> bool
 /// Whether what was captured before a condition is not what there is where it is true.
 pub fn captures_anew(condition: &ServerCondition) -> bool {
     match condition {
-        ServerCondition::Match(_) => true,
+        ServerCondition::Match(_)
+        | ServerCondition::MatchText(_)
+        | ServerCondition::MatchGroup(_) => true,
         ServerCondition::And(first, next) => captures_anew(first) || captures_anew(next),
         ServerCondition::Or(first, next) => captures_anew(first) && captures_anew(next),
         _ => false,

@@ -4,17 +4,21 @@ ghost use Rattle.std.specs.Prelude.{◌≤◌, length};
 
 use crate::addresses::octal_address;
 use crate::choices::sole_choice;
-use crate::patterns::{WrittenPattern, flagged, match_sign, matches_empty, pattern_text};
+use crate::operands::{Operand, after_blanks, next_operand, next_pattern, relation};
+use crate::patterns::{WrittenPattern, match_sign, pattern_text};
 use crate::reasons::{Reason, Refusal};
 use crate::references::{
     Names, Reference, has_texts, is_address, is_number, kind_of, reference_of,
 };
 use crate::server_codes::{KnownCodes, ServerCode};
 use crate::server_conditions::ServerCondition;
+use crate::text_sides::text_parts;
 use crate::texts::{expansion, has_expansion, sole_capture, sole_expansion, text_octets};
 use avp_dict::{Kind, Named};
 use avp_lists::{Octets, Selection, Value};
-use avp_unlang::{Comparand, Comparison, Matching, Relation};
+use avp_unlang::{
+    Comparand, Comparison, GroupMatching, Items, Matching, Part, Relation, TextComparison, TextSide,
+};
 use server_configuration::Quote;
 use std::alloc::Global;
 
@@ -26,13 +30,6 @@ const MAX_NESTED: usize = 8;
 
 /// The most conditions with `&&` or `||` between them, and brackets and `!` round them.
 const MAX_PARTS: usize = 256;
-
-/// A word, or a text between quotes.
-#[derive(Clone, Copy)]
-pub struct Operand<'a> {
-    pub quote: Quote,
-    pub octets: &'a [u8],
-}
 
 const EMPTY: Operand<'static> = Operand {
     quote: Quote::Single,
@@ -63,103 +60,6 @@ pub struct ConditionReader<'a> {
 struct Room {
     nested: usize,
     parts: usize,
-}
-
-fn is_blank(octet: u8) -> bool {
-    matches!(octet, b' ' | b'\t' | b'\r' | b'\n' | 0x0b | 0x0c)
-}
-
-fn after_blanks(text: &[u8]) -> &[u8] {
-    match text.iter().position(|octet| !is_blank(*octet)) {
-        Some(place) => text.split_at(place).1,
-        None => &[],
-    }
-}
-
-// The octets up to the end of a text between quotes, and what follows its end.
-fn quoted(text: &[u8], mark: u8) -> Option<(&[u8], &[u8])> {
-    let mut is_escaped = false;
-    for (place, octet) in text.iter().enumerate() {
-        if *octet == mark && !is_escaped {
-            let (octets, rest) = text.split_at(place);
-            return Some((octets, rest.split_first()?.1));
-        }
-        is_escaped = *octet == b'\\' && !is_escaped;
-    }
-    None
-}
-
-// Whether a word without quotes ends at an octet that is not its first.
-fn ends_word(octet: u8) -> bool {
-    is_blank(octet)
-        || matches!(
-            octet,
-            b'(' | b')' | b'"' | b'\'' | b'=' | b'!' | b'<' | b'>' | b'&' | b'|'
-        )
-}
-
-// A word without quotes, and what follows it. Braces of expansions are of the word.
-fn bare(text: &[u8]) -> (&[u8], &[u8]) {
-    let mut depth = 0usize;
-    for (place, octet) in text.iter().enumerate() {
-        match *octet {
-            b'{' => depth = depth.saturating_add(1),
-            b'}' => depth = depth.saturating_sub(1),
-            other if depth == 0 && place > 0 && ends_word(other) => return text.split_at(place),
-            _ => {}
-        }
-    }
-    (text, &[])
-}
-
-// The operand that a text begins with, and what follows it.
-fn next_operand(text: &[u8]) -> Result<(Operand<'_>, &[u8]), Reason> {
-    let quote = match text {
-        [b'"', ..] => Quote::Double,
-        [b'\'', ..] => Quote::Single,
-        [b'`', ..] => return Err(Reason::Command),
-        [b'/', ..] => return Err(Reason::RegularExpression),
-        [b'<', ..] => return Err(Reason::Cast),
-        [] => return Err(Reason::Condition),
-        [first, ..] if ends_word(*first) && *first != b'&' => return Err(Reason::Condition),
-        _ => Quote::Bare,
-    };
-    if quote == Quote::Bare {
-        let (octets, rest) = bare(text);
-        return Ok((Operand { quote, octets }, rest));
-    }
-    let [mark, rest @ ..] = text else {
-        return Err(Reason::Condition);
-    };
-    match quoted(rest, *mark) {
-        Some((octets, rest)) => Ok((Operand { quote, octets }, rest)),
-        None => Err(Reason::Condition),
-    }
-}
-
-// The regular expression that a text begins with, and what follows it.
-fn next_pattern(text: &[u8]) -> Result<(WrittenPattern<'_>, &[u8]), Reason> {
-    let [b'/', rest @ ..] = text else {
-        return Err(Reason::RegularExpression);
-    };
-    match quoted(rest, b'/') {
-        Some((octets, rest)) => flagged(octets, rest),
-        None => Err(Reason::RegularExpression),
-    }
-}
-
-// How a comparison that follows compares, and what follows its sign.
-fn relation(text: &[u8]) -> Result<Option<(Relation, &[u8])>, Reason> {
-    match text {
-        [b'=', b'=', rest @ ..] => Ok(Some((Relation::Equal, rest))),
-        [b'!', b'=', rest @ ..] => Ok(Some((Relation::Differs, rest))),
-        [b'<', b'=', rest @ ..] => Ok(Some((Relation::AtMost, rest))),
-        [b'>', b'=', rest @ ..] => Ok(Some((Relation::AtLeast, rest))),
-        [b'<', rest @ ..] => Ok(Some((Relation::Less, rest))),
-        [b'>', rest @ ..] => Ok(Some((Relation::Greater, rest))),
-        [b'=' | b'!', b'*', ..] => Err(Reason::Operator),
-        _ => Ok(None),
-    }
 }
 
 // The same with its sides exchanged.
@@ -289,11 +189,32 @@ impl<'a> ConditionReader<'a> {
     ) -> Result<ServerCondition, Refusal> {
         let text = text_octets(self.alloc, &self.names, operand.quote, operand.octets)?;
         if is_number(&text) {
-            return Err(Refusal::LeftOut(Reason::ExpandedNumber));
+            return self.number_compared(text, turned(relation), asked);
         }
         let comparison = self.compared_with_text(asked, relation, operand)?;
         let compare = ServerCondition::Compare(comparison);
         self.of_text(asked, compare, meets_empty(relation, &text))
+    }
+
+    // The comparison of a number with what is in place of an expansion, which is a number too where it is digits alone.
+    fn number_compared(
+        &self,
+        number: Vec<u8>,
+        relation: Relation,
+        asked: &Reference<'_>,
+    ) -> Result<ServerCondition, Refusal> {
+        if !self.takes_patterns {
+            return Err(Refusal::LeftOut(Reason::ExpandedNumber));
+        }
+        let mut left = Vec::new(self.alloc);
+        left.push(Part::Text(Octets::from_vec(number)))?;
+        let mut right = Vec::new(self.alloc);
+        right.push(Part::Meant(asked.list, asked.named.id, Selection::All))?;
+        Ok(ServerCondition::CompareTexts(TextComparison {
+            left: TextSide::Text(Items::from_vec(left)),
+            relation,
+            right: Items::from_vec(right),
+        }))
     }
 
     // A condition of the text of an attribute alone, which is the empty text where that is absent.
@@ -326,23 +247,67 @@ impl<'a> ConditionReader<'a> {
         Ok(group)
     }
 
-    // The comparison of what was captured with a text: policies ask whether it is empty.
+    // Whether what was captured is empty, if a comparison of it with the empty text asks that.
     fn capture_compared(
         &self,
-        group: u8,
-        relation: Relation,
         operand: Operand<'_>,
-    ) -> Result<ServerCondition, Refusal> {
-        let is_empty = matches!(operand.quote, Quote::Single | Quote::Double)
-            && operand.octets.is_empty();
+        relation: Relation,
+        other: Operand<'_>,
+    ) -> Result<Option<ServerCondition>, Refusal> {
+        let Some(group) = self.capture(operand)? else {
+            return Ok(None);
+        };
         let captured = ServerCondition::Captured(group);
         match relation {
-            Relation::Differs if is_empty => Ok(captured),
-            Relation::Equal if is_empty => Ok(ServerCondition::Not(Box::new(
-                self.alloc, captured,
-            )?)),
-            _ => Err(Refusal::LeftOut(Reason::Capture)),
+            Relation::Differs if other.is_empty() => Ok(Some(captured)),
+            Relation::Equal if other.is_empty() => {
+                let captured = Box::new(self.alloc, captured)?;
+                Ok(Some(ServerCondition::Not(captured)))
+            }
+            _ => Ok(None),
         }
+    }
+
+    // Whether a server compares two operands as texts, into one of which something is put. One expansion alone beside
+    // a text that is written out is its attribute.
+    fn are_compared_as_texts(
+        &self,
+        left: Operand<'_>,
+        own: Option<Reference<'_>>,
+        right: Operand<'_>,
+        other: Option<Reference<'_>>,
+    ) -> bool {
+        if !self.takes_patterns {
+            return false;
+        }
+        match other {
+            Some(asked) if asked.is_asked() => left.puts_in(),
+            Some(_) => left.is_text() && right.puts_in(),
+            None => right.puts_in() || (left.puts_in() && own.is_none()),
+        }
+    }
+
+    // The comparison of two texts, or of a string with a text.
+    fn as_texts(
+        &self,
+        left: Operand<'_>,
+        own: Option<Reference<'_>>,
+        relation: Relation,
+        right: Operand<'_>,
+    ) -> Result<ServerCondition, Refusal> {
+        let left = match own {
+            _ if left.is_text() => { TextSide::Text(text_parts(self.alloc, &self.names, left)?) }
+            Some(own) if self.is_text(&own) => {
+                TextSide::Instance(own.list, own.named.id, Selection::All)
+            }
+            Some(_) => return Err(Refusal::LeftOut(Reason::ExpandedValue)),
+            None => return Err(Refusal::LeftOut(Reason::TwoTexts)),
+        };
+        Ok(ServerCondition::CompareTexts(TextComparison {
+            left,
+            relation,
+            right: text_parts(self.alloc, &self.names, right)?,
+        }))
     }
 
     // The comparison of two texts that are written out, which has one truth.
@@ -531,9 +496,11 @@ impl<'a> ConditionReader<'a> {
         };
         let matched = self.matching(&chosen.found, negated, pattern)?;
         let otherwise = self.matching(&other, negated, pattern)?;
-        let meets_empty = self.meets_empty_text(negated, pattern)?;
-        let otherwise = self.of_text(&other, otherwise, meets_empty)?;
-        self.where_filled(&chosen.found, matched, otherwise)
+        self.where_filled(
+            &chosen.found,
+            ServerCondition::Match(matched),
+            ServerCondition::MatchText(otherwise),
+        )
     }
 
     // ---- comparisons
@@ -551,14 +518,17 @@ impl<'a> ConditionReader<'a> {
         if let Some(chosen) = self.chosen_text(right)? {
             return self.chosen_compared(&chosen, turned(relation), left);
         }
-        if let Some(group) = self.capture(left)? {
-            return self.capture_compared(group, relation, right);
+        if let Some(condition) = self.capture_compared(left, relation, right)? {
+            return Ok(condition);
         }
-        if let Some(group) = self.capture(right)? {
-            return self.capture_compared(group, turned(relation), left);
+        if let Some(condition) = self.capture_compared(right, turned(relation), left)? {
+            return Ok(condition);
         }
         let own = self.attribute(left, true)?;
         let other = self.attribute(right, false)?;
+        if self.are_compared_as_texts(left, own, right, other) {
+            return self.as_texts(left, own, relation, right);
+        }
         match (own, other) {
             (Some(own), None) if own.is_asked() => self.asked_compared(&own, relation, right),
             (None, Some(other)) if other.is_asked() => {
@@ -604,32 +574,38 @@ impl<'a> ConditionReader<'a> {
         found: &Reference<'_>,
         negated: bool,
         pattern: WrittenPattern<'_>,
-    ) -> Result<ServerCondition, Refusal> {
+    ) -> Result<Matching, Refusal> {
         if found.named.raw {
             return Err(Refusal::LeftOut(Reason::MatchedRaw));
         }
         let text = pattern_text(self.alloc, pattern.octets)?;
-        Ok(ServerCondition::Match(Matching {
+        Ok(Matching {
             list: found.list,
             id: found.named.id,
             selection: Selection::All,
             negated,
             pattern: Octets::from_vec(text),
             flags: pattern.flags,
+        })
+    }
+
+    // The search of what was captured.
+    fn group_matching(
+        &self,
+        group: u8,
+        negated: bool,
+        pattern: WrittenPattern<'_>,
+    ) -> Result<ServerCondition, Refusal> {
+        let text = pattern_text(self.alloc, pattern.octets)?;
+        Ok(ServerCondition::MatchGroup(GroupMatching {
+            group,
+            negated,
+            pattern: Octets::from_vec(text),
+            flags: pattern.flags,
         }))
     }
 
-    // Whether the empty text is as the comparison wants it.
-    fn meets_empty_text(
-        &self,
-        negated: bool,
-        pattern: WrittenPattern<'_>,
-    ) -> Result<bool, Refusal> {
-        let text = pattern_text(self.alloc, pattern.octets)?;
-        Ok(matches_empty(self.alloc, &text, pattern.flags)? != negated)
-    }
-
-    // The comparison of an attribute with a regular expression.
+    // The comparison of an attribute, or of a text that is one expansion alone, with a regular expression.
     fn matched(
         &self,
         left: Operand<'_>,
@@ -642,16 +618,17 @@ impl<'a> ConditionReader<'a> {
         if let Some(chosen) = self.chosen_text(left)? {
             return self.chosen_matched(&chosen, negated, pattern);
         }
+        if let Some(group) = self.capture(left)? {
+            return self.group_matching(group, negated, pattern);
+        }
         let Some(found) = self.attribute(left, true)? else {
             return Err(Refusal::LeftOut(Reason::MatchedText));
         };
         let matching = self.matching(&found, negated, pattern)?;
-        // A text is searched also where the attribute is absent.
-        if left.quote == Quote::Double || left.octets.starts_with(b"%{") {
-            let meets_empty = self.meets_empty_text(negated, pattern)?;
-            self.of_text(&found, matching, meets_empty)
+        if left.is_text() {
+            Ok(ServerCondition::MatchText(matching))
         } else {
-            Ok(matching)
+            Ok(ServerCondition::Match(matching))
         }
     }
 

@@ -19,6 +19,9 @@ pub enum Difference {
     TaggedOctets,
     #[error("on a server a date is one of its own zone")]
     DateZone,
+    /// Where both texts that are compared are digits, which may have a sign before them.
+    #[error("on a server texts of digits are numbers of 64 bits, also behind a -")]
+    TextNumbers,
     /// As `%{explode:..}` does.
     #[error("on a server the expansion changes attributes")]
     ChangedList,
@@ -33,6 +36,7 @@ impl Difference {
             Difference::LongExpansion => Some("long-expansion"),
             Difference::TaggedOctets => Some("tagged-octets"),
             Difference::DateZone => Some("date-zone"),
+            Difference::TextNumbers => Some("text-numbers"),
             Difference::ChangedList => Some("changed-list"),
         }
     }

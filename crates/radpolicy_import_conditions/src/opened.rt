@@ -11,8 +11,11 @@ ghost use Rattle.avp_unlang.specs.declared.tree.Cond.{Cond as TheCond};
 ghost use Rattle.radpolicy_import_conditions.specs.Opened.{Says, opened, opened_parts};
 
 use crate::printing::Join;
-use avp_lists::{AttrId, List};
-use avp_unlang::{Code, Comparand, Comparison, Cond, Matching, Policy, Statement};
+use avp_lists::{AttrId, List, Selection};
+use avp_unlang::{
+    Code, Comparand, Comparison, Cond, GroupMatching, Matching, Part, Policy, Statement,
+    TextComparison, TextSide,
+};
 
 fn same_code(code: Code, other: Code) -> bool
     ensures { IsTrue result → other ≡ code }
@@ -81,6 +84,95 @@ fn same_matching(matching: &Matching, other: &Matching) -> bool
         return false;
     }
     same_pattern(matching, other)
+}
+
+fn same_group_pattern(matching: &GroupMatching, other: &GroupMatching) -> bool
+    ensures { IsTrue result → (other.now.pattern ≡ matching.now.pattern)
+        × (other.now.flags ≡ matching.now.flags) }
+{
+    matching.pattern == other.pattern && matching.flags == other.flags
+}
+
+fn same_group_matching(matching: &GroupMatching, other: &GroupMatching) -> bool
+    ensures { IsTrue result → other.now ≡ matching.now }
+{
+    if matching.group != other.group || matching.negated != other.negated {
+        return false;
+    }
+    same_group_pattern(matching, other)
+}
+
+fn same_instances(
+    list: List,
+    id: AttrId,
+    selection: Selection,
+    other: (List, AttrId, Selection),
+) -> bool
+    ensures { IsTrue result → other ≡ (list, id, selection) }
+{
+    list == other.0 && id == other.1 && selection == other.2
+}
+
+fn same_part(part: &Part, other: &Part) -> bool
+    ensures { IsTrue result → other.now ≡ part.now }
+{
+    match (part, other) {
+        (Part::Text(octets), Part::Text(others)) => octets == others,
+        (Part::Meant(list, id, selection), Part::Meant(other, number, which)) => {
+            same_instances(*list, *id, *selection, (*other, *number, *which))
+        }
+        (Part::Capture(group), Part::Capture(other)) => group == other,
+        _ => false,
+    }
+}
+
+// What is left of the others behind these parts, where they begin with them.
+fn behind_parts<'a>(parts: &[Part], others: &'a [Part]) -> Option<&'a [Part]>
+    ensures { IfSome result (λ rest. others.now ≡ parts.now ++ rest.now) }
+{
+    let mut rest = others;
+    for part in parts {
+        let (first, behind) = rest.split_first()?;
+        if !same_part(part, first) {
+            return None;
+        }
+        rest = behind;
+    }
+    Some(rest)
+}
+
+fn same_parts(parts: &[Part], others: &[Part]) -> bool
+    ensures { IsTrue result → others.now ≡ parts.now }
+{
+    match behind_parts(parts, others) {
+        Some([]) => true,
+        _ => false,
+    }
+}
+
+fn same_side(side: &TextSide, other: &TextSide) -> bool
+    ensures { IsTrue result → other.now ≡ side.now }
+{
+    match (side, other) {
+        (TextSide::Text(parts), TextSide::Text(others)) => {
+            same_parts(parts.as_slice(), others.as_slice())
+        }
+        (TextSide::Instance(list, id, selection), TextSide::Instance(other, number, which)) =>
+            same_instances(*list, *id, *selection, (*other, *number, *which)),
+        _ => false,
+    }
+}
+
+fn same_texts(comparison: &TextComparison, other: &TextComparison) -> bool
+    ensures { IsTrue result → other.now ≡ comparison.now }
+{
+    if comparison.relation != other.relation {
+        return false;
+    }
+    if !same_side(&comparison.left, &other.left) {
+        return false;
+    }
+    same_parts(comparison.right.as_slice(), other.right.as_slice())
 }
 
 // What is left of conditions behind those that one becomes beside others.
@@ -153,6 +245,11 @@ fn is_opened(cond: &Cond, other: &Cond) -> bool
         }
         (Cond::Compare(comparison), Cond::Compare(other)) => same_comparison(comparison, other),
         (Cond::Match(matching), Cond::Match(other)) => same_matching(matching, other),
+        (Cond::CompareTexts(texts), Cond::CompareTexts(other)) => same_texts(texts, other),
+        (Cond::MatchText(matching), Cond::MatchText(other)) => same_matching(matching, other),
+        (Cond::MatchGroup(matching), Cond::MatchGroup(other)) => {
+            same_group_matching(matching, other)
+        }
         (Cond::Captured(group), Cond::Captured(other)) => group == other,
         _ => false,
     }

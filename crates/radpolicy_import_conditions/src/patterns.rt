@@ -1,9 +1,9 @@
 //! Regular expressions, as a server has them.
 
-use crate::reasons::{Reason, Refusal};
+use crate::reasons::Reason;
 use crate::server_conditions::ServerCondition;
-use avp_patterns::{Pattern, PatternFault, PatternFlags};
-use avp_unlang::Matching;
+use avp_lists::Octets;
+use avp_patterns::PatternFlags;
 use std::alloc::{AllocError, Global};
 use thiserror::Error;
 
@@ -93,59 +93,27 @@ pub(crate) fn pattern_text(alloc: Global, octets: &[u8]) -> Result<Vec<u8>, Allo
     Ok(text)
 }
 
-/// Whether a regular expression matches the empty text.
-pub(crate) fn matches_empty(
-    alloc: Global,
-    text: &[u8],
-    flags: PatternFlags,
-) -> Result<bool, Refusal> {
-    let pattern = match Pattern::read(alloc, text, flags) {
-        Ok(pattern) => pattern,
-        Err(PatternFault::Memory) => return Err(Refusal::Memory),
-        // The policy's own reading says why.
-        Err(_) => return Ok(false),
-    };
-    Ok(pattern.matcher(alloc)?.is_match(b""))
-}
-
 /// A regular expression and its flags, as policies write it.
-pub(crate) fn push_pattern(out: &mut Vec<u8>, matching: &Matching) -> Result<(), AllocError> {
+pub(crate) fn push_pattern(
+    out: &mut Vec<u8>,
+    pattern: &Octets,
+    flags: PatternFlags,
+) -> Result<(), AllocError> {
     out.push(b'/')?;
-    for octet in matching.pattern.as_slice() {
+    for octet in pattern.as_slice() {
         if *octet == b'/' {
             out.push(b'\\')?;
         }
         out.push(*octet)?;
     }
     out.push(b'/')?;
-    if matching.flags.ignore_case {
+    if flags.ignore_case {
         out.push(b'i')?;
     }
-    if matching.flags.multi_line {
+    if flags.multi_line {
         out.push(b'm')?;
     }
     Ok(())
-}
-
-/// The comparisons with regular expressions in a condition.
-#[cycle(finding)]
-pub fn push_matchings<'c>(
-    found: &mut Vec<&'c Matching>,
-    condition: &'c ServerCondition,
-) -> Result<(), AllocError> {
-    match condition {
-        ServerCondition::Match(matching) => Ok(found.push(matching)?),
-        ServerCondition::Not(inner) => push_matchings(found, inner),
-        ServerCondition::And(first, next) | ServerCondition::Or(first, next) => {
-            push_matchings(found, first)?;
-            push_matchings(found, next)
-        }
-        ServerCondition::Constant(_)
-        | ServerCondition::Last(_)
-        | ServerCondition::Present(..)
-        | ServerCondition::Compare(_)
-        | ServerCondition::Captured(_) => Ok(()),
-    }
 }
 
 // A part of a regular expression: what it is to a server, how long it is, and whether what follows is in a class.
@@ -275,26 +243,49 @@ fn add_difference(
     Ok(())
 }
 
-/// Adds how a server takes parts of a regular expression otherwise, each once.
-pub fn add_differences(
+// How a server takes parts of a regular expression otherwise.
+fn add_differences_of(
     found: &mut Vec<PatternDifference>,
-    matching: &Matching,
+    text: &[u8],
+    flags: PatternFlags,
 ) -> Result<(), AllocError> {
-    let text = matching.pattern.as_slice();
     let mut from = 0usize;
     let mut is_in_class = false;
     for place in 0..text.len() {
         if place < from {
             continue;
         }
-        let piece = next_piece(
-            text.split_at(place).1,
-            is_in_class,
-            matching.flags.multi_line,
-        );
+        let piece = next_piece(text.split_at(place).1, is_in_class, flags.multi_line);
         add_difference(found, piece.difference)?;
         is_in_class = piece.is_in_class;
         from = place.saturating_add(piece.length);
     }
     Ok(())
+}
+
+/// Adds how a server takes parts of a condition's regular expressions otherwise, each once.
+#[cycle(finding)]
+pub fn add_differences(
+    found: &mut Vec<PatternDifference>,
+    condition: &ServerCondition,
+) -> Result<(), AllocError> {
+    match condition {
+        ServerCondition::Match(matching) | ServerCondition::MatchText(matching) => {
+            add_differences_of(found, matching.pattern.as_slice(), matching.flags)
+        }
+        ServerCondition::MatchGroup(matching) => {
+            add_differences_of(found, matching.pattern.as_slice(), matching.flags)
+        }
+        ServerCondition::Not(inner) => add_differences(found, inner),
+        ServerCondition::And(first, next) | ServerCondition::Or(first, next) => {
+            add_differences(found, first)?;
+            add_differences(found, next)
+        }
+        ServerCondition::Constant(_)
+        | ServerCondition::Last(_)
+        | ServerCondition::Present(..)
+        | ServerCondition::Compare(_)
+        | ServerCondition::CompareTexts(_)
+        | ServerCondition::Captured(_) => Ok(()),
+    }
 }

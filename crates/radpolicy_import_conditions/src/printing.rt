@@ -3,10 +3,13 @@
 use crate::patterns::push_pattern;
 use crate::reasons::{Reason, Refusal};
 use crate::references::list_name;
-use crate::texts::push_captured;
+use crate::texts::{push_capture, push_captured, push_quoted};
 use avp_dict::Dictionary;
 use avp_lists::{AttrId, List, Pair, Selection, Value};
-use avp_unlang::{Code, Comparand, Comparison, Cond, Matching, Relation};
+use avp_unlang::{
+    Code, Comparand, Comparison, Cond, GroupMatching, Matching, Part, Relation, TextComparison,
+    TextSide,
+};
 use std::alloc::Global;
 
 /// Prints conditions by a dictionary.
@@ -52,8 +55,12 @@ fn sign(relation: Relation) -> &'static [u8] {
     }
 }
 
+fn match_sign(negated: bool) -> &'static [u8] {
+    if negated { b" !~ " } else { b" =~ " }
+}
+
 impl<'a> ConditionPrinter<'a> {
-    // `&` and an attribute's name, by number where the value is raw.
+    // An attribute's name, by number where the value is raw.
     fn push_name(
         &self,
         out: &mut Vec<u8>,
@@ -61,7 +68,6 @@ impl<'a> ConditionPrinter<'a> {
         id: AttrId,
         value: &Value,
     ) -> Result<(), Refusal> {
-        out.push(b'&')?;
         if list != List::Request {
             out.extend_from_slice(list_name(list))?;
             out.push(b':')?;
@@ -72,7 +78,15 @@ impl<'a> ConditionPrinter<'a> {
     }
 
     fn push_attribute(&self, out: &mut Vec<u8>, list: List, id: AttrId) -> Result<(), Refusal> {
+        out.push(b'&')?;
         self.push_name(out, list, id, &Value::Int(0))
+    }
+
+    fn push_expansion(&self, out: &mut Vec<u8>, list: List, id: AttrId) -> Result<(), Refusal> {
+        out.extend_from_slice(b"%{")?;
+        self.push_name(out, list, id, &Value::Int(0))?;
+        out.push(b'}')?;
+        Ok(())
     }
 
     fn push_literal(
@@ -88,6 +102,7 @@ impl<'a> ConditionPrinter<'a> {
         if !self.dictionary.fits(&pair) {
             return Err(Refusal::LeftOut(Reason::NotValue));
         }
+        out.push(b'&')?;
         self.push_name(out, comparison.list, pair.id, &pair.value)?;
         out.extend_from_slice(sign(comparison.relation))?;
         let text = self
@@ -113,9 +128,64 @@ impl<'a> ConditionPrinter<'a> {
             return Err(Refusal::LeftOut(Reason::Tag));
         }
         self.push_attribute(out, matching.list, matching.id)?;
-        let sign = if matching.negated { b" !~ " } else { b" =~ " };
-        out.extend_from_slice(sign)?;
-        Ok(push_pattern(out, matching)?)
+        out.extend_from_slice(match_sign(matching.negated))?;
+        Ok(push_pattern(out, &matching.pattern, matching.flags)?)
+    }
+
+    fn push_text_matching(&self, out: &mut Vec<u8>, matching: &Matching) -> Result<(), Refusal> {
+        if matching.selection != Selection::All {
+            return Err(Refusal::LeftOut(Reason::Tag));
+        }
+        out.push(b'"')?;
+        self.push_expansion(out, matching.list, matching.id)?;
+        out.push(b'"')?;
+        out.extend_from_slice(match_sign(matching.negated))?;
+        Ok(push_pattern(out, &matching.pattern, matching.flags)?)
+    }
+
+    fn push_group_matching(
+        &self,
+        out: &mut Vec<u8>,
+        matching: &GroupMatching,
+    ) -> Result<(), Refusal> {
+        push_captured(out, matching.group)?;
+        out.extend_from_slice(match_sign(matching.negated))?;
+        Ok(push_pattern(out, &matching.pattern, matching.flags)?)
+    }
+
+    fn push_part(&self, out: &mut Vec<u8>, part: &Part) -> Result<(), Refusal> {
+        match part {
+            Part::Text(octets) => Ok(push_quoted(out, octets.as_slice())?),
+            Part::Instance(list, id) | Part::Meant(list, id, Selection::All) => {
+                self.push_expansion(out, *list, *id)
+            }
+            Part::Meant(..) => Err(Refusal::LeftOut(Reason::Tag)),
+            Part::Capture(group) => Ok(push_capture(out, *group)?),
+        }
+    }
+
+    // A text between double quotes.
+    fn push_text(&self, out: &mut Vec<u8>, parts: &[Part]) -> Result<(), Refusal> {
+        out.push(b'"')?;
+        for part in parts {
+            self.push_part(out, part)?;
+        }
+        out.push(b'"')?;
+        Ok(())
+    }
+
+    fn push_side(&self, out: &mut Vec<u8>, side: &TextSide) -> Result<(), Refusal> {
+        match side {
+            TextSide::Text(parts) => self.push_text(out, parts.as_slice()),
+            TextSide::Instance(list, id, Selection::All) => self.push_attribute(out, *list, *id),
+            TextSide::Instance(..) => Err(Refusal::LeftOut(Reason::Tag)),
+        }
+    }
+
+    fn push_texts(&self, out: &mut Vec<u8>, comparison: &TextComparison) -> Result<(), Refusal> {
+        self.push_side(out, &comparison.left)?;
+        out.extend_from_slice(sign(comparison.relation))?;
+        self.push_text(out, comparison.right.as_slice())
     }
 
     // Conditions with a sign between them. What is joined by the same sign in one of them needs no brackets.
@@ -148,15 +218,13 @@ impl<'a> ConditionPrinter<'a> {
     fn push_negated(&self, out: &mut Vec<u8>, cond: &Cond) -> Result<(), Refusal> {
         out.push(b'!')?;
         match cond {
-            Cond::Compare(comparison) => {
+            Cond::Compare(_)
+            | Cond::CompareTexts(_)
+            | Cond::Match(_)
+            | Cond::MatchText(_)
+            | Cond::MatchGroup(_) => {
                 out.push(b'(')?;
-                self.push_comparison(out, comparison)?;
-                out.push(b')')?;
-                Ok(())
-            }
-            Cond::Match(matching) => {
-                out.push(b'(')?;
-                self.push_matching(out, matching)?;
+                self.push_operand(out, cond)?;
                 out.push(b')')?;
                 Ok(())
             }
@@ -174,6 +242,9 @@ impl<'a> ConditionPrinter<'a> {
             Cond::Present(list, id) => self.push_attribute(out, *list, *id),
             Cond::Compare(comparison) => self.push_comparison(out, comparison),
             Cond::Match(matching) => self.push_matching(out, matching),
+            Cond::CompareTexts(comparison) => self.push_texts(out, comparison),
+            Cond::MatchText(matching) => self.push_text_matching(out, matching),
+            Cond::MatchGroup(matching) => self.push_group_matching(out, matching),
             Cond::Captured(group) => Ok(push_captured(out, *group)?),
             // Conditions of wider policies, which an import does not write.
             Cond::PresentSelected(..) => Err(Refusal::LeftOut(Reason::Tag)),

@@ -12,13 +12,17 @@ ghost use Rattle.avp_unlang.specs.Truth.{same_code, truth, truth_by};
 ghost use Rattle.avp_unlang.specs.declared.codes.Code.{Code as TheCode};
 ghost use Rattle.avp_unlang.specs.declared.tree.Cond.TheVariants as conds;
 ghost use Rattle.radpolicy_import_conditions.specs.Capturing.{keeps_captures, server_evaluated};
-ghost use Rattle.radpolicy_import_conditions.specs.Conditions.{Answer, both, comparison_answer, either, is_false, is_true, matching_answer, server_truth, server_truth_by};
+ghost use Rattle.radpolicy_import_conditions.specs.Conditions.{Answer, both, comparison_answer, either, is_false, is_side_there, is_true, matching_answer, server_truth, server_truth_by, texts_answer};
 ghost use Rattle.radpolicy_import_conditions.specs.internal.Guards.{Matches, answer_of, truth_if, truth_of};
 ghost use Rattle.radpolicy_import_conditions.specs.internal.Rewriting as ours;
 
+use crate::copies::{copy_comparison, copy_group_matching, copy_matching, copy_texts};
 use crate::server_conditions::ServerCondition;
 use avp_lists::{AttrId, List, Selection};
-use avp_unlang::{Boxed, Code, Comparand, Comparison, Cond, Items, Matching};
+use avp_unlang::{
+    Boxed, Code, Comparand, Comparison, Cond, GroupMatching, Items, Matching, TextComparison,
+    TextSide,
+};
 use std::alloc::{AllocError, Global};
 
 #[tactic(auto, using(crate::proofs::Truths::all_pushed))]
@@ -77,66 +81,91 @@ fn never(alloc: Global) -> Result<Cond, AllocError>
     Ok(made)
 }
 
-fn copy_comparand(alloc: Global, comparand: &Comparand) -> Result<Comparand, AllocError>
-    ensures { IfOk result (λ copy. copy ≡ comparand.now) }
+// Whether an attribute has one of these instances.
+#[tactic(auto, using(crate::proofs::Truths::all_there, crate::proofs::Truths::some_there))]
+fn selected(list: List, id: AttrId, selection: Selection) -> Cond
+    ensures truth { (m : Matches) (s : State) (c : TheCode) → truth_of m result s c
+        ≡ has_selected selection id (list_of list s) }
+    ensures made { result ≡ ours.selected list id selection }
 {
-    match comparand {
-        Comparand::Literal(value) => Ok(Comparand::Literal(value.copy(alloc)?)),
-        Comparand::Instance(list, id) => Ok(Comparand::Instance(*list, *id)),
+    match selection {
+        Selection::All => Cond::Present(list, id),
+        selection => Cond::PresentSelected(list, id, selection),
     }
 }
 
-pub(crate) fn copy_comparison(
-    alloc: Global,
-    comparison: &Comparison,
-) -> Result<Comparison, AllocError>
-    ensures { IfOk result (λ copy. copy ≡ comparison.now) }
-{
-    Ok(Comparison {
-        list: comparison.list,
-        id: comparison.id,
-        kind: comparison.kind,
-        relation: comparison.relation,
-        comparand: copy_comparand(alloc, &comparison.comparand)?,
-    })
-}
-
-fn copy_matching(alloc: Global, matching: &Matching) -> Result<Matching, AllocError>
-    ensures { IfOk result (λ copy. copy ≡ matching.now) }
-{
-    Ok(Matching {
-        list: matching.list,
-        id: matching.id,
-        selection: matching.selection,
-        negated: matching.negated,
-        pattern: matching.pattern.copy(alloc)?,
-        flags: matching.flags,
-    })
-}
-
 // Whether the attribute is there that is compared with a pattern.
-#[tactic(auto, using(crate::proofs::Truths::all_there, crate::proofs::Truths::some_there))]
 fn is_there(matching: &Matching) -> Cond
     ensures truth { (m : Matches) (s : State) (c : TheCode) → truth_of m result s c
         ≡ has_selected matching.now.selection matching.now.id (list_of matching.now.list s) }
     ensures made { result ≡ ours.is_there matching.now }
 {
-    match matching.selection {
-        Selection::All => Cond::Present(matching.list, matching.id),
-        selection => Cond::PresentSelected(matching.list, matching.id, selection),
-    }
+    selected(matching.list, matching.id, matching.selection)
 }
 
 // Where a comparison with a pattern is false, and not without an answer.
 #[tactic(auto, using(crate::proofs::Truths::mismatch_of))]
 fn mismatches(alloc: Global, matching: &Matching) -> Result<Cond, AllocError>
     ensures truth { IfOk result (λ cond. (m : Matches) (s : State) (c : TheCode) → truth_of m cond s c
-        ≡ is_false (matching_answer m.is_met matching.now s)) }
+        ≡ is_false (matching_answer m.printed.matched matching.now s)) }
     ensures made { IfOk result (λ cond. cond ≡ ours.mismatches matching.now) }
 {
     let is_unmet = negated(alloc, Cond::Match(copy_matching(alloc, matching)?))?;
     let made = both(alloc, is_there(matching), is_unmet)?;
     Ok(made)
+}
+
+// Where a text that is compared with a pattern does not meet it.
+#[tactic(auto, using(crate::proofs::Truths::text_mismatch_of))]
+fn text_mismatches(alloc: Global, matching: &Matching) -> Result<Cond, AllocError>
+    ensures truth { IfOk result (λ cond. (m : Matches) (s : State) (c : TheCode) → truth_of m cond s c
+        ≡ not (m.printed.text_matched matching.now s)) }
+    ensures made { IfOk result (λ cond. cond ≡ conds.Not (conds.MatchText matching.now)) }
+{
+    let matched = Cond::MatchText(copy_matching(alloc, matching)?);
+    let made = negated(alloc, matched)?;
+    Ok(made)
+}
+
+// Where what was captured does not meet a pattern.
+#[tactic(auto, using(crate::proofs::Truths::group_mismatch_of))]
+fn group_mismatches(alloc: Global, matching: &GroupMatching) -> Result<Cond, AllocError>
+    ensures truth { IfOk result (λ cond. (m : Matches) (s : State) (c : TheCode) → truth_of m cond s c
+        ≡ not (m.printed.group_matched matching.now)) }
+    ensures made { IfOk result (λ cond. cond ≡ conds.Not (conds.MatchGroup matching.now)) }
+{
+    let matched = Cond::MatchGroup(copy_group_matching(alloc, matching)?);
+    let made = negated(alloc, matched)?;
+    Ok(made)
+}
+
+// Where texts are not in the relation.
+#[tactic(auto, using(crate::proofs::Truths::unmet_texts_copy))]
+fn unmet_texts(alloc: Global, comparison: &TextComparison) -> Result<Cond, AllocError>
+    ensures truth { IfOk result (λ cond. (m : Matches) (s : State) (c : TheCode) → truth_of m cond s c
+        ≡ not (m.printed.texts comparison.now s)) }
+    ensures made { IfOk result (λ cond. cond ≡ conds.Not (conds.CompareTexts comparison.now)) }
+{
+    let compared = Cond::CompareTexts(copy_texts(alloc, comparison)?);
+    let made = negated(alloc, compared)?;
+    Ok(made)
+}
+
+// Where a comparison of texts is false, and not without an answer.
+#[tactic(auto, using(crate::proofs::Truths::texts_differ_of, crate::proofs::Truths::instance_differs_of))]
+fn texts_differ(alloc: Global, comparison: &TextComparison) -> Result<Cond, AllocError>
+    ensures truth { IfOk result (λ cond. (m : Matches) (s : State) (c : TheCode) → truth_of m cond s c
+        ≡ is_false (texts_answer m.printed.texts comparison.now s)) }
+    ensures made { IfOk result (λ cond. cond ≡ ours.texts_differ comparison.now) }
+{
+    let are_unmet = unmet_texts(alloc, comparison)?;
+    match comparison.left {
+        TextSide::Text(_) => Ok(are_unmet),
+        TextSide::Instance(list, id, selection) => {
+            let made = both(alloc, selected(list, id, selection), are_unmet)?;
+            Ok(made)
+        }
+    }
 }
 
 // Whether both sides of a comparison are there.
@@ -192,6 +221,27 @@ fn is_other_code(alloc: Global, word: Code) -> Result<Cond, AllocError>
     Ok(made)
 }
 
+// Whether a side of a comparison is a text, which is always there.
+fn is_text(side: &TextSide) -> bool
+    ensures truth { IsTrue result → (s : State) → is_side_there side.now s ≡ true }
+    ensures made { result ≡ ours.is_text side.now }
+{
+    match side {
+        TextSide::Text(_) => true,
+        TextSide::Instance(..) => false,
+    }
+}
+
+// Whether a comparison of texts has an answer in all lists.
+#[tactic(auto, using(crate::proofs::Truths::texts_answered))]
+fn are_texts(comparison: &TextComparison) -> bool
+    ensures truth { IsTrue result → (m : Matches) (s : State)
+        → is_some (texts_answer m.printed.texts comparison.now s) ≡ true }
+    ensures made { result ≡ ours.is_text comparison.now.left }
+{
+    is_text(&comparison.left)
+}
+
 // Whether a condition has an answer in all lists.
 fn is_certain(condition: &ServerCondition) -> bool
     ensures truth { IsTrue result → (m : Matches) (s : State) (c : TheCode)
@@ -202,8 +252,11 @@ fn is_certain(condition: &ServerCondition) -> bool
         ServerCondition::Constant(_)
         | ServerCondition::Last(_)
         | ServerCondition::Present(..)
+        | ServerCondition::MatchText(_)
+        | ServerCondition::MatchGroup(_)
         | ServerCondition::Captured(_) => true,
         ServerCondition::Compare(_) | ServerCondition::Match(_) => false,
+        ServerCondition::CompareTexts(comparison) => are_texts(comparison),
         ServerCondition::Not(inner) => is_certain(inner),
         ServerCondition::And(first, next) | ServerCondition::Or(first, next) => {
             is_certain(first) && is_certain(next)
@@ -288,7 +341,7 @@ fn names(comparison: &Comparison, list: List, id: AttrId) -> bool
 #[tactic(auto, using(crate::proofs::Truths::matched_present))]
 fn is_matched(matching: &Matching, list: List, id: AttrId) -> bool
     ensures truth { IsTrue result → (m : Matches) (s : State)
-        → IsTrue (is_true (matching_answer m.is_met matching.now s))
+        → IsTrue (is_true (matching_answer m.printed.matched matching.now s))
         → IsTrue (has_instance id (list_of list s)) }
     ensures made { result ≡ ours.is_same matching.now.list matching.now.id list id }
 {
@@ -301,6 +354,7 @@ fn captures_with(condition: &ServerCondition, list: List, id: AttrId) -> bool
 {
     match condition {
         ServerCondition::Match(matching) => is_same(matching.list, matching.id, list, id),
+        ServerCondition::MatchText(_) | ServerCondition::MatchGroup(_) => false,
         ServerCondition::Not(inner) => captures_with(inner, list, id),
         ServerCondition::And(first, next) | ServerCondition::Or(first, next) => {
             captures_with(first, list, id) && captures_with(next, list, id)
@@ -350,7 +404,7 @@ fn sides_before(
 fn there_before(matching: &Matching, next: &ServerCondition) -> Option<Cond>
     ensures truth { (m : Matches) (s : State) (c : TheCode)
         → (truth_if m result s c && is_true (answer_of m next.now s c))
-        ≡ (is_some (matching_answer m.is_met matching.now s)
+        ≡ (is_some (matching_answer m.printed.matched matching.now s)
         && is_true (answer_of m next.now s c)) }
     ensures made { result ≡ ours.there_before matching.now next.now }
 {
@@ -450,7 +504,7 @@ fn guard_of_and(first: &ServerCondition, holds_first: Cond) -> Option<Cond>
 
 // Our condition that is true where the server's has the answer true.
 #[cycle(rewriting)]
-#[tactic(auto, using(crate::proofs::Truths::last_word, crate::proofs::Truths::truth_there, crate::proofs::Truths::compare_copied, crate::proofs::Truths::match_copied, crate::proofs::Truths::captured_false))]
+#[tactic(auto, using(crate::proofs::Truths::last_word, crate::proofs::Truths::truth_there, crate::proofs::Truths::compare_copied, crate::proofs::Truths::match_copied, crate::proofs::Truths::texts_copied, crate::proofs::Truths::text_match_copied, crate::proofs::Truths::group_match_copied, crate::proofs::Truths::captured_false))]
 fn where_true(alloc: Global, condition: &ServerCondition) -> Result<Cond, AllocError>
     ensures truth { IfOk result (λ cond. (m : Matches) (s : State) (c : TheCode) → truth_of m cond s c
         ≡ is_true (answer_of m condition.now s c)) }
@@ -465,6 +519,15 @@ fn where_true(alloc: Global, condition: &ServerCondition) -> Result<Cond, AllocE
             Ok(Cond::Compare(copy_comparison(alloc, comparison)?))
         }
         ServerCondition::Match(matching) => Ok(Cond::Match(copy_matching(alloc, matching)?)),
+        ServerCondition::CompareTexts(comparison) => {
+            Ok(Cond::CompareTexts(copy_texts(alloc, comparison)?))
+        }
+        ServerCondition::MatchText(matching) => {
+            Ok(Cond::MatchText(copy_matching(alloc, matching)?))
+        }
+        ServerCondition::MatchGroup(matching) => {
+            Ok(Cond::MatchGroup(copy_group_matching(alloc, matching)?))
+        }
         ServerCondition::Captured(group) => Ok(Cond::Captured(*group)),
         ServerCondition::Not(inner) => where_false(alloc, inner),
         ServerCondition::And(first, next) => {
@@ -500,6 +563,9 @@ fn where_false(alloc: Global, condition: &ServerCondition) -> Result<Cond, Alloc
         }
         ServerCondition::Compare(comparison) => differs(alloc, comparison),
         ServerCondition::Match(matching) => mismatches(alloc, matching),
+        ServerCondition::CompareTexts(comparison) => texts_differ(alloc, comparison),
+        ServerCondition::MatchText(matching) => text_mismatches(alloc, matching),
+        ServerCondition::MatchGroup(matching) => group_mismatches(alloc, matching),
         ServerCondition::Captured(group) => {
             let made = negated(alloc, Cond::Captured(*group))?;
             Ok(made)
@@ -524,7 +590,7 @@ fn where_false(alloc: Global, condition: &ServerCondition) -> Result<Cond, Alloc
 /// Our condition that is true exactly where the server takes the branch of its condition, in all lists and after all
 /// codes.
 pub fn rewritten(alloc: Global, condition: &ServerCondition) -> Result<Cond, AllocError>
-    // One that compares with no pattern.
+    // One that compares with no pattern and no texts.
     ensures plain { IfOk result (λ cond. (s : State) (c : TheCode) → truth cond s c
         ≡ server_truth condition.now s c) }
     // Any, by whichever dictionary values are printed.

@@ -6,7 +6,7 @@ ghost use Rattle.avp_unlang.specs.declared.codes.Code.{Code as TheCode};
 ghost use Rattle.radpolicy_import_conditions.specs.Switches.{chosen_case, first_case, is_default, taken_case};
 ghost use Rattle.radpolicy_import_conditions.specs.internal.Branches.{branches_of};
 
-use crate::rewriting::copy_comparison;
+use crate::copies::copy_comparison;
 use avp_unlang::{Comparison, Cond};
 use std::alloc::{AllocError, Global};
 

@@ -13,9 +13,9 @@ use avp_lists::List;
 use server_configuration::{Quote, Text};
 use std::alloc::{AllocError, Global};
 
-// A part of a text between double quotes.
+/// A part of a text between double quotes.
 #[derive(Clone, Copy)]
-enum Part<'a> {
+pub(crate) enum Part<'a> {
     Octet(u8),
     Expansion(Reference<'a>),
     // What a regular expression captured, as `%{1}`.
@@ -119,8 +119,11 @@ pub(crate) fn expansion<'a>(names: &Names<'_>, word: &'a [u8]) -> Result<Referen
     }
 }
 
-// The part that a text begins with, and what follows it.
-fn next_part<'a>(names: &Names<'_>, text: &'a [u8]) -> Result<Option<(Part<'a>, &'a [u8])>, Reason>
+/// The part that a text begins with, and what follows it.
+pub(crate) fn next_part<'a>(
+    names: &Names<'_>,
+    text: &'a [u8],
+) -> Result<Option<(Part<'a>, &'a [u8])>, Reason>
     ensures { IfOk result (λ found. IfSome found (λ found. length found.1.now < length text.now)) }
 {
     match text {
@@ -191,10 +194,16 @@ pub(crate) fn push_expansion(
 /// A source of an update between double quotes, of the octets of a text.
 pub(crate) fn push_octets(out: &mut Vec<u8>, octets: &[u8]) -> Result<(), AllocError> {
     out.push(b'"')?;
+    push_quoted(out, octets)?;
+    Ok(out.push(b'"')?)
+}
+
+/// Octets that are between double quotes.
+pub(crate) fn push_quoted(out: &mut Vec<u8>, octets: &[u8]) -> Result<(), AllocError> {
     for octet in octets {
         push_octet(out, *octet)?;
     }
-    Ok(out.push(b'"')?)
+    Ok(())
 }
 
 /// What a regular expression captured, between double quotes.
@@ -204,7 +213,7 @@ pub(crate) fn push_captured(out: &mut Vec<u8>, group: u8) -> Result<(), AllocErr
     Ok(out.push(b'"')?)
 }
 
-fn push_capture(out: &mut Vec<u8>, group: u8) -> Result<(), AllocError> {
+pub(crate) fn push_capture(out: &mut Vec<u8>, group: u8) -> Result<(), AllocError> {
     out.extend_from_slice(&[b'%', b'{', b'0' + group % 10, b'}'])
 }
 

@@ -38,8 +38,8 @@ pub(crate) struct DraftCondition {
     pub(crate) uses_captures: bool,
     /// Whether something else was captured where it is true.
     pub(crate) captures_anew: bool,
-    /// Whether it searches a text, which clears what was captured on a server also where its attribute is absent.
-    pub(crate) searches_text: bool,
+    /// Whether it compares texts that may be numbers.
+    pub(crate) compares_numbers: bool,
 }
 
 impl DraftCondition {
@@ -51,7 +51,7 @@ impl DraftCondition {
             differences: Vec::new(alloc),
             uses_captures: false,
             captures_anew: false,
-            searches_text: false,
+            compares_numbers: false,
         }
     }
 }

@@ -568,6 +568,9 @@ impl<'a> Importer<'a> {
         for difference in &condition.differences {
             self.warn(place, Difference::Pattern(*difference))?;
         }
+        if condition.compares_numbers {
+            self.warn(place, Difference::TextNumbers)?;
+        }
         if condition.uses_captures && self.captured_else {
             self.warn(place, Difference::Pattern(PatternDifference::Earlier))?;
         }
@@ -580,11 +583,9 @@ impl<'a> Importer<'a> {
         branches: &[Statement],
         conditions: &[DraftCondition],
     ) -> Result<(), ImportFault> {
-        let (outer, mut before) = (self.codes, self.captured_else);
+        let (outer, before) = (self.codes, self.captured_else);
         let (mut codes, mut after) = (None, before);
         for (branch, condition) in branches.iter().zip(conditions) {
-            // Where the attribute of a text is absent, what was captured goes on a server alone.
-            before = before || condition.searches_text;
             self.captured_else = before;
             self.count_given(branch.place)?;
             self.begin(1);
@@ -595,7 +596,7 @@ impl<'a> Importer<'a> {
             self.block(branch.block.as_slice())?;
             self.close(branch.place)?;
             codes = Some(one_of(codes, self.codes));
-            after = after || before || self.captured_else;
+            after = after || self.captured_else;
         }
         self.codes = match branches.last() {
             Some(last) if last.kind == StatementKind::Else => codes.unwrap_or(outer),

@@ -15,8 +15,9 @@ use avp_unlang::{Comparison, Cond, Policy, PolicyKind, Relation, read_policy};
 use radpolicy_import_conditions::{
     Alternative, ChosenLine, ConditionPrinter, ConditionReader, KnownCodes, LineReader, Names,
     Operand, Reason, Refusal, ServerCode, ServerCondition, ServerList, SwitchChain, UpdateLine,
-    add_differences, alternatives, between, captures_anew, chain_of, expansions_in, has_choices,
-    keeps_captures, list_name, parts_of, push_matchings, rewritten, says, uses_captures,
+    add_differences, alternatives, between, captures_anew, chain_of, compares_numbers,
+    expansions_in, has_choices, has_pattern, keeps_captures, list_name, parts_of, rewritten, says,
+    uses_captures,
 };
 use server_configuration::{Configuration, Content, Operator, Quote, Text, has_reference};
 use std::alloc::Global;
@@ -27,17 +28,6 @@ pub(crate) enum PairLines {
     One(UpdateLine),
     /// A chain of branches with a line each.
     Chosen(Vec<ChosenLine>),
-}
-
-// Whether a condition compares a text with a regular expression: what is before `=~` or `!~` ends in quotes or a brace.
-fn searches_text(text: &[u8]) -> bool {
-    text.split(|octet| *octet == b'~').any(|before| {
-        let left = match before {
-            [left @ .., b'=' | b'!'] => left,
-            _ => b"",
-        };
-        matches!(left.trim_ascii_end(), [.., b'"' | b'}'])
-    })
 }
 
 /// The condition of the case at a place, if the chain has a branch for it.
@@ -167,18 +157,13 @@ impl<'a> ItemReader<'a> {
             [] => return Err(Refusal::LeftOut(Reason::Condition)),
         };
         let condition = self.reader(codes).condition(&text)?;
-        let searches_text = searches_text(&text);
-        let mut matchings = Vec::new(self.alloc);
-        push_matchings(&mut matchings, &condition)?;
         let mut differences = Vec::new(self.alloc);
-        for matching in &matchings {
-            add_differences(&mut differences, matching)?;
-        }
+        add_differences(&mut differences, &condition)?;
         let uses_captures = uses_captures(&condition);
-        let profile = if matchings.is_empty() && !uses_captures {
-            Profile::Plain
-        } else {
+        let profile = if has_pattern(&condition) || uses_captures || condition.compares_texts() {
             Profile::Wider
+        } else {
+            Profile::Plain
         };
         Ok(DraftCondition {
             text: self.condition_in(profile, text, &condition)?,
@@ -186,7 +171,7 @@ impl<'a> ItemReader<'a> {
             differences,
             uses_captures,
             captures_anew: captures_anew(&condition),
-            searches_text,
+            compares_numbers: compares_numbers(&condition),
         })
     }
 

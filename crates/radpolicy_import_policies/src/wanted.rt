@@ -4,7 +4,7 @@ use crate::unset::is_set;
 use avp_lists::{AttrId, List};
 use avp_unlang::{
     Branch, Comparand, Comparison, Cond, Line, MeantComparand, MeantComparison, Part, Policy,
-    Source, Statement,
+    Source, Statement, TextSide,
 };
 use std::alloc::{AllocError, Global};
 
@@ -61,13 +61,26 @@ impl Reads {
         match cond {
             Cond::Any(conds) | Cond::All(conds) => self.conditions(line, conds.as_slice()),
             Cond::Not(cond) => self.condition(line, cond.get()),
-            Cond::Last(_) | Cond::Captured(_) => Ok(()),
+            Cond::Last(_) | Cond::MatchGroup(_) | Cond::Captured(_) => Ok(()),
             Cond::Present(list, id) | Cond::PresentSelected(list, id, _) => {
                 self.read(line, *list, *id)
             }
             Cond::Compare(comparison) => self.comparison(line, comparison),
             Cond::CompareMeant(comparison) => self.meant(line, comparison),
-            Cond::Match(matching) => self.read(line, matching.list, matching.id),
+            Cond::Match(matching) | Cond::MatchText(matching) => {
+                self.read(line, matching.list, matching.id)
+            }
+            Cond::CompareTexts(comparison) => {
+                self.side(line, &comparison.left)?;
+                self.parts(line, comparison.right.as_slice())
+            }
+        }
+    }
+
+    fn side(&mut self, line: usize, side: &TextSide) -> Result<(), AllocError> {
+        match side {
+            TextSide::Text(parts) => self.parts(line, parts.as_slice()),
+            TextSide::Instance(list, id, _) => self.read(line, *list, *id),
         }
     }
 

@@ -108,7 +108,7 @@ fn is_left_out(
 fn left_out(rt: HostRuntime) -> Result<(), Fail> {
     let captures = b"what a regular expression captures";
     assert!(rt; is_left_out(rt.alloc(), Profile::Plain, b"(\"%{1}\")", captures)?);
-    assert!(rt; is_left_out(rt.alloc(), Profile::Wider, b"(\"%{1}\" == \"a\")", captures)?);
+    assert!(rt; is_left_out(rt.alloc(), Profile::Plain, b"(\"%{1}\" == \"a\")", captures)?);
     Ok(())
 }
 
@@ -155,11 +155,12 @@ fn by_a_part_that_is_left_out(rt: HostRuntime) -> Result<(), Fail> {
     Ok(())
 }
 
+// Also where its attribute is absent a text is searched.
 #[test]
 fn by_a_text_that_is_searched(rt: HostRuntime) -> Result<(), Fail> {
     let text =
         b"authorize {\n if (&User-Name =~ /(a)/) {\n if (\"%{reply:User-Name}\" =~ /b/) {\n ok\n }\n \
         update reply {\n Class := \"%{1}\"\n }\n }\n}";
-    assert_eq!(rt; warnings(rt.alloc(), text)?, 1);
+    assert_eq!(rt; warnings(rt.alloc(), text)?, 0);
     Ok(())
 }

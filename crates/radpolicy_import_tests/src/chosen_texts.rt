@@ -59,7 +59,7 @@ fn with_a_regular_expression(rt: HostRuntime) -> Result<(), Fail> {
         b"# profile: wider\nif ((!&Reply-Message || (&Reply-Message && !(&Reply-Message != \
           \"\")) || (&Reply-Message && &Reply-Message != \"\" && &Reply-Message =~ /^b/)) && \
           ((&Reply-Message && &Reply-Message != \"\") || ((!&Reply-Message || (&Reply-Message \
-          && !(&Reply-Message != \"\"))) && &User-Name && &User-Name =~ /^b/))) \
+          && !(&Reply-Message != \"\"))) && \"%{User-Name}\" =~ /^b/))) \
           {\n\treject\n}\n"
             .as_slice()
     );

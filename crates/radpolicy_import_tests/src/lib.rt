@@ -6,6 +6,8 @@ mod captures;
 #[cfg(test)]
 mod chosen_texts;
 #[cfg(test)]
+mod compared_texts;
+#[cfg(test)]
 mod counts;
 #[cfg(test)]
 mod failing_updates;

@@ -232,9 +232,17 @@ fn matched_what_is_asked(rt: HostRuntime) -> Result<(), Fail> {
     let text =
         b"authorize {\n if (\"%{sql:x}\" =~ /^b/) {\n ok\n }\n if (\"%{sql:x}\" !~ /^b/) {\n ok\n }\n}";
     let (text, _) = policy_of(rt.alloc(), text)?;
-    let wanted =
-        b"# profile: wider\nif (&control:Import-Sql-1 && &control:Import-Sql-1 =~ /^b/) {\n\tok\n}\n\
-        if (!&control:Import-Sql-1 || &control:Import-Sql-1 !~ /^b/) {\n\tok\n}\n";
+    let wanted = b"# profile: wider\nif (\"%{control:Import-Sql-1}\" =~ /^b/) {\n\tok\n}\n\
+        if (\"%{control:Import-Sql-1}\" !~ /^b/) {\n\tok\n}\n";
+    assert_eq!(rt; text.as_slice(), wanted.as_slice());
+    Ok(())
+}
+
+#[test]
+fn a_number_that_is_asked(rt: HostRuntime) -> Result<(), Fail> {
+    let text = b"authorize {\n if (\"%{sql:x}\" > 5) {\n ok\n }\n}";
+    let (text, _) = policy_of(rt.alloc(), text)?;
+    let wanted = b"# profile: wider\nif (\"5\" < \"%{control:Import-Sql-1}\") {\n\tok\n}\n";
     assert_eq!(rt; text.as_slice(), wanted.as_slice());
     Ok(())
 }

@@ -27,7 +27,7 @@ fn an_expansion_alone(rt: HostRuntime) -> Result<(), Fail> {
         becomes(
             rt.alloc(),
             b"authorize {\n if (\"%{reply:User-Name}\" !~ /a/) {\n reject\n }\n}",
-            b"# profile: wider\nif (!&reply:User-Name || &reply:User-Name !~ /a/) {  # main:2\n\
+            b"# profile: wider\nif (\"%{reply:User-Name}\" !~ /a/) {  # main:2\n\
           \treject  # main:3\n}  # main:2\n",
             (2, 2, 0),
         )?
@@ -42,9 +42,9 @@ fn a_text_that_may_be_empty(rt: HostRuntime) -> Result<(), Fail> {
             rt.alloc(),
             b"authorize {\n if (\"%{User-Name}\" =~ /a/) {\n reject\n }\n \
           elsif (\"%{User-Name}\" =~ /^b*$/) {\n ok\n }\n}",
-            b"# profile: wider\nif (&User-Name && &User-Name =~ /a/) {  # main:2\n\
+            b"# profile: wider\nif (\"%{User-Name}\" =~ /a/) {  # main:2\n\
           \treject  # main:3\n}  # main:2\n\
-          elsif (!&User-Name || &User-Name =~ /^b*$/) {  # main:5\n\
+          elsif (\"%{User-Name}\" =~ /^b*$/) {  # main:5\n\
           \tok  # main:6\n}  # main:5\n",
             (4, 4, 0),
         )?
@@ -114,7 +114,7 @@ fn of_values_of_other_types(rt: HostRuntime) -> Result<(), Fail> {
         becomes(
             rt.alloc(),
             b"authorize {\n if (&NAS-IP-Address =~ /^192/ && !(\"%{NAS-Port}\" =~ /1/)) {\n ok\n }\n}",
-            b"# profile: wider\nif (&NAS-IP-Address =~ /^192/ && (!&NAS-Port || (&NAS-Port && !(&NAS-Port =~ /1/)))) {  # main:2\n\
+            b"# profile: wider\nif (&NAS-IP-Address =~ /^192/ && !(\"%{NAS-Port}\" =~ /1/)) {  # main:2\n\
           \tok  # main:3\n}  # main:2\n",
             (2, 2, 0),
         )?

@@ -13,7 +13,10 @@ use Rattle.avp_unlang.specs.declared.tree.Comparison.{Comparison}
 use Rattle.avp_unlang.specs.declared.tree.Cond.{Cond}
 use Rattle.avp_unlang.specs.declared.tree.Cond.TheVariants as ours
 use Rattle.avp_unlang.specs.declared.tree.Matching.{Matching}
-use Rattle.radpolicy_import_conditions.specs.declared.server_conditions.ServerCondition.{ServerCondition, Constant, Last, Present, Compare, Match, Captured, Not', And', Or'}
+use Rattle.avp_unlang.specs.declared.tree.TextComparison.{TextComparison}
+use Rattle.avp_unlang.specs.declared.tree.TextSide.{TextSide}
+use Rattle.avp_unlang.specs.declared.tree.TextSide.TheVariants as side
+use Rattle.radpolicy_import_conditions.specs.declared.server_conditions.ServerCondition.{ServerCondition, Constant, Last, Present, Compare, Match, CompareTexts, MatchText, MatchGroup, Captured, Not', And', Or'}
 
 abbrev pub both : Cond → Cond → Cond
 both first next = ours.All (first ∷ next ∷ [])
@@ -40,6 +43,13 @@ is_there m = selected m.list m.id m.selection
 abbrev pub mismatches : Matching → Cond
 mismatches m = both (is_there m) (ours.Not (ours.Match m))
 
+abbrev pub with_side : TextSide → Cond → Cond
+with_side (side.Text parts) cond = cond
+with_side (side.Instance list id selection) cond = both (selected list id selection) cond
+
+abbrev pub texts_differ : TextComparison → Cond
+texts_differ k = with_side k.left (ours.Not (ours.CompareTexts k))
+
 abbrev pub sides : Name → AttrId → Comparand → Cond
 sides list id (Literal value) = ours.Present list id
 sides list id (Instance other other_id) =
@@ -53,9 +63,14 @@ differs k = both (both_sides k) (ours.Not (ours.Compare k))
 
 -- ---- what a condition implies
 
+abbrev pub is_text : TextSide → Bool
+is_text (side.Text parts) = true
+is_text (side.Instance list id selection) = false
+
 abbrev pub is_certain : ServerCondition → Bool
 is_certain (Compare comparison) = false
 is_certain (Match matching) = false
+is_certain (CompareTexts comparison) = is_text comparison.left
 is_certain (Not' p inner) = is_certain inner
 is_certain (And' p first q next) = is_certain first && is_certain next
 is_certain (Or' p first q next) = is_certain first && is_certain next
@@ -89,6 +104,8 @@ implies_present _ list id = false
 
 abbrev pub captures_with : ServerCondition → Name → AttrId → Bool
 captures_with (Match matching) list id = is_same matching.list matching.id list id
+captures_with (MatchText matching) list id = false
+captures_with (MatchGroup matching) list id = false
 captures_with (Not' p inner) list id = captures_with inner list id
 captures_with (And' p first q next) list id =
     captures_with first list id && captures_with next list id
@@ -149,6 +166,12 @@ rewritten_as (Compare comparison) true = ours.Compare comparison
 rewritten_as (Compare comparison) false = differs comparison
 rewritten_as (Match matching) true = ours.Match matching
 rewritten_as (Match matching) false = mismatches matching
+rewritten_as (CompareTexts comparison) true = ours.CompareTexts comparison
+rewritten_as (CompareTexts comparison) false = texts_differ comparison
+rewritten_as (MatchText matching) true = ours.MatchText matching
+rewritten_as (MatchText matching) false = ours.Not (ours.MatchText matching)
+rewritten_as (MatchGroup matching) true = ours.MatchGroup matching
+rewritten_as (MatchGroup matching) false = ours.Not (ours.MatchGroup matching)
 rewritten_as (Captured group) true = ours.Captured group
 rewritten_as (Captured group) false = ours.Not (ours.Captured group)
 rewritten_as (Not' p inner) true = rewritten_as inner false

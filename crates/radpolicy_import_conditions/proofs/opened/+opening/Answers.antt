@@ -1,5 +1,5 @@
 use Rattle.std.proofs.Common.{◌≡◌, ◌++◌, IfSome, subst}
-use Rattle.radpolicy_import_conditions.proofs.Opening.{nat_same, part_All, part_Any, part_in_and, part_in_or, told_All, told_Any, told_Captured, told_Compare, told_Last, told_Match, told_Not, told_Present}
+use Rattle.radpolicy_import_conditions.proofs.Opening.{nat_same, part_All, part_Any, part_in_and, part_in_or, told_All, told_Any, told_Captured, told_Compare, told_CompareTexts, told_Last, told_Match, told_MatchGroup, told_MatchText, told_Not, told_Present}
 use Rattle.radpolicy_import_conditions.proofs.opened.+opening.Goals as goal
 
 pub after_part-returns-in-All : goal.after_part-returns-in-All
@@ -54,6 +54,21 @@ is_opened-returns-in-Compare-Compare t c = λ h.
 pub is_opened-returns-in-Match-Match : goal.is_opened-returns-in-Match-Match
 is_opened-returns-in-Match-Match t c = λ h.
     told_Match c.args.cond.now c.args.other.now c.in-Match-Match.matching c.in-Match-Match.other c.in-Match-Match.is-0 c.in-Match-Match.is-1 (c.same_matching.ensures h)
+
+pub is_opened-returns-in-CompareTexts-CompareTexts : goal.is_opened-returns-in-CompareTexts-CompareTexts
+is_opened-returns-in-CompareTexts-CompareTexts t c = λ h.
+    told_CompareTexts c.args.cond.now c.args.other.now c.in-CompareTexts-CompareTexts.texts c.in-CompareTexts-CompareTexts.other
+    c.in-CompareTexts-CompareTexts.is-0 c.in-CompareTexts-CompareTexts.is-1 (c.same_texts.ensures h)
+
+pub is_opened-returns-in-MatchText-MatchText : goal.is_opened-returns-in-MatchText-MatchText
+is_opened-returns-in-MatchText-MatchText t c = λ h.
+    told_MatchText c.args.cond.now c.args.other.now c.in-MatchText-MatchText.matching c.in-MatchText-MatchText.other
+    c.in-MatchText-MatchText.is-0 c.in-MatchText-MatchText.is-1 (c.same_matching-in-MatchText-MatchText.ensures h)
+
+pub is_opened-returns-in-MatchGroup-MatchGroup : goal.is_opened-returns-in-MatchGroup-MatchGroup
+is_opened-returns-in-MatchGroup-MatchGroup t c = λ h.
+    told_MatchGroup c.args.cond.now c.args.other.now c.in-MatchGroup-MatchGroup.matching c.in-MatchGroup-MatchGroup.other
+    c.in-MatchGroup-MatchGroup.is-0 c.in-MatchGroup-MatchGroup.is-1 (c.same_group_matching.ensures h)
 
 pub is_opened-returns-in-Captured-Captured : goal.is_opened-returns-in-Captured-Captured
 is_opened-returns-in-Captured-Captured t c = λ h.

@@ -1,0 +1,107 @@
+//! Texts of conditions, as policies compare them.
+
+use crate::operands::Operand;
+use crate::reasons::{Reason, Refusal};
+use crate::references::{Names, Reference};
+use crate::server_conditions::ServerCondition;
+use crate::texts::{Part as ServerPart, next_part, text_octets};
+use avp_lists::{Octets, Selection};
+use avp_unlang::{Items, Part, Parts, TextComparison, TextSide};
+use std::alloc::{AllocError, Global};
+
+// What is put in for an expansion.
+fn put_in(found: &Reference<'_>) -> Result<Part, Reason> {
+    if found.named.raw {
+        return Err(Reason::Expansion);
+    }
+    Ok(Part::Meant(found.list, found.named.id, Selection::All))
+}
+
+// Octets are a part, unless there are none.
+fn push_octets(alloc: Global, parts: &mut Vec<Part>, octets: &[u8]) -> Result<(), AllocError> {
+    if !octets.is_empty() {
+        let octets = Vec::from_slice(alloc, octets)?;
+        parts.push(Part::Text(Octets::from_vec(octets)))?;
+    }
+    Ok(())
+}
+
+// The part of a policy's text that an expansion becomes; none of an octet.
+fn expanded(part: ServerPart<'_>) -> Result<Option<Part>, Reason> {
+    match part {
+        ServerPart::Octet(_) => Ok(None),
+        ServerPart::Expansion(found) => Ok(Some(put_in(&found)?)),
+        ServerPart::Capture(group) => Ok(Some(Part::Capture(group))),
+    }
+}
+
+fn double_parts(alloc: Global, names: &Names<'_>, text: &[u8]) -> Result<Vec<Part>, Refusal> {
+    let mut parts = Vec::new(alloc);
+    let mut octets = Vec::new(alloc);
+    let mut rest = text;
+    while let Some((part, after)) = next_part(names, rest)? {
+        rest = after;
+        if let ServerPart::Octet(octet) = part {
+            octets.push(octet)?;
+        }
+        if let Some(part) = expanded(part)? {
+            push_octets(alloc, &mut parts, &octets)?;
+            octets.clear();
+            parts.push(part)?;
+        }
+    }
+    push_octets(alloc, &mut parts, &octets)?;
+    Ok(parts)
+}
+
+/// The parts of a text of a condition.
+pub(crate) fn text_parts(
+    alloc: Global,
+    names: &Names<'_>,
+    operand: Operand<'_>,
+) -> Result<Parts, Refusal> {
+    if operand.puts_in() {
+        return Ok(Items::from_vec(double_parts(alloc, names, operand.octets)?));
+    }
+    let octets = text_octets(alloc, names, operand.quote, operand.octets)?;
+    let mut parts = Vec::new(alloc);
+    push_octets(alloc, &mut parts, &octets)?;
+    Ok(Items::from_vec(parts))
+}
+
+// Whether what a part becomes may be digits alone, with a sign before them.
+fn may_be_digits(part: &Part) -> bool {
+    match part {
+        Part::Text(octets) => octets
+            .as_slice()
+            .iter()
+            .all(|octet| octet.is_ascii_digit() || *octet == b'-'),
+        _ => true,
+    }
+}
+
+fn may_be_number(parts: &[Part]) -> bool {
+    !parts.is_empty() && parts.iter().all(|part| may_be_digits(part))
+}
+
+fn may_be_numbers(comparison: &TextComparison) -> bool {
+    match &comparison.left {
+        TextSide::Text(parts) => {
+            may_be_number(parts.as_slice()) && may_be_number(comparison.right.as_slice())
+        }
+        TextSide::Instance(..) => false,
+    }
+}
+
+/// Whether a condition compares texts that may be numbers, which a server takes otherwise where they are long or have a
+/// sign.
+pub fn compares_numbers(condition: &ServerCondition) -> bool {
+    match condition {
+        ServerCondition::CompareTexts(comparison) => may_be_numbers(comparison),
+        ServerCondition::Not(inner) => compares_numbers(inner),
+        ServerCondition::And(first, next) | ServerCondition::Or(first, next) => {
+            compares_numbers(first) || compares_numbers(next)
+        }
+        _ => false,
+    }
+}
