@@ -11,7 +11,7 @@ SECONDS = 2.0
 KILOBYTES = 512 * 1024
 OF_FILE = {f"E{number}" for number in range(10, 20)}
 OF_REQUEST = {"E30", "E31", "E32", "E33", "E34", "E35", "E36"}
-OF_POLICY = {"E30", "E31", "E32", "E33", "E50", "E51", "E53", "E54", "E55", "E56", "E57", "E58", "E59", "E60"}
+OF_POLICY = {"E30", "E31", "E32", "E33", "E50", "E51", "E53", "E54", "E55", "E56", "E57", "E58", "E59", "E60", "E61"}
 PAIR = rb"  [A-Za-z0-9._/-]+ = .*\n"
 # Below a policy's line `# profile: wider` names have tags, from 0 to 31.
 LISTED = rb"  [A-Za-z0-9._/-]+(?::(?:[12]?\d|3[01]))? = .*\n"

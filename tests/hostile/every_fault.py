@@ -69,6 +69,7 @@ OF_POLICIES = {
     "E58 policy:2": b"# profile: wider\nif (&User-Name =~ /%{Class}/) { ok }\n",
     "E59 policy:2": b"# profile: wider\nif (&User-Name =~ /(?=a)/) { ok }\n",
     "E60 policy:2": b"# profile: wider\nif (&User-Name =~ /a{20000}{200}/) { ok }\n",
+    "E61 policy:2": b"# profile: wider\nif (\"a%{Class}\" =~ /x/) { ok }\n",
 }
 TOO_LONG = b"Long = 0x" + b"61" * 4012 + b"\nClass = 0x01\n"
 

@@ -141,6 +141,49 @@ def search_row(name: str, texts: List[bytes], value: bytes) -> Row:
     return run_row(name, LISTS % (b"  " + line, b"", b"ok"), request=line, policy=pattern_policy(texts))
 
 
+def capture_row(name: str, condition: bytes, request: bytes, line: bytes = b"") -> Row:
+    """A run in which a condition with captures doesn't hold, or puts them into a line of the reply."""
+    policy = b"# profile: wider\nif (" + condition + b') {\nupdate reply { Long-Text := "%{0}" }\n}\n'
+    return run_row(name, LISTS % (b"  " + request, line and b"  " + line, b"ok"), request=request, policy=policy)
+
+
+def capture_rows() -> List[Row]:
+    """The slow ones over the longest text and the longest octets, with what they capture."""
+    text, octets = b'Long-Text = "' + b"a" * 4011 + b'!"\n', b"Long = 0x" + b"61" * 4011 + b"21\n"
+    alike = b'Long-Text = "' + b"a" * 4012 + b'"\n'
+    slow = [(b"Long-Text", text, found) for found in (b"((a*)*)b", b"((a|aa)+)$", b"((a?){500})a{500}b", b"((x+x+)+)y")]
+    slow += [(b"Long", octets, found) for found in (b"((6*1*)*)b", b"((61|6161)+)$", b"(((61)?){250})(61){250}b")]
+    return [
+        *(
+            capture_row(f"captures of {found.decode()} in {name.decode()}", b"&%b =~ /%b/" % (name, found), request)
+            for name, request, found in slow
+        ),
+        capture_row("captures of 4012 octets", b"&Long-Text =~ /((a|aa)+)$/", alike, alike),
+        capture_row("captures in captures", b'&Long-Text =~ /(a*)/ && "%{1}" =~ /((a*)*)b/', text),
+    ]
+
+
+def text_row(name: str, condition: bytes, request: bytes, code: bytes, shown: bytes = b"") -> Row:
+    """A run whose code tells whether a condition holds."""
+    policy = b"# profile: wider\nif (" + condition + b") { updated }\n"
+    return run_row(name, LISTS % (shown or b"  " + request, b"", code), request=request, policy=policy)
+
+
+def text_rows() -> List[Row]:
+    """Texts of conditions that are long, and that put in what is far in a list or absent."""
+    request = b'Long-Text = "' + b"1" * 4012 + b'"\n'
+    many, absent = b"%{Long-Text}" * 500, b"%{Class}" * 500
+    pairs = b"Short = 0x01\n" * MAX_PAIRS
+    listed = b"  " + pairs.replace(b"\n", b"\n  ")[:-2]
+    alike = b'"x%{Long-Text}" == "x%{Long-Text}"'
+    return [
+        text_row("two numbers of 2,000,000 digits", b'"' + many + b'" == "0' + many + b'"', request, b"updated"),
+        text_row("two texts of 2,000,000 octets", b'"x' + many + b'" != "x' + many + b'"', request, b"ok"),
+        text_row("1,000 texts of 4012 octets", b" && ".join([alike] * 1000), request, b"updated"),
+        text_row("500 absent from 4096 pairs", b'"' + absent + b'" == "' + absent + b'"', pairs, b"updated", listed),
+    ]
+
+
 def pattern_rows() -> List[Row]:
     """Regular expressions that take long elsewhere, over the longest value; many of them; and large ones."""
     alike, mixed = b"a" * 4012, b"abbabaab" * 501 + b"abba"
@@ -281,6 +324,6 @@ def line_rows() -> List[Row]:
 
 def rows() -> Iterator[Row]:
     """All of them, some at a time, since they are large."""
-    makers = [value_rows, name_rows, depth_rows, policy_rows, pattern_rows, input_rows, full_rows, request_rows]
-    for maker in [*makers, include_rows, line_rows]:
+    makers = [value_rows, name_rows, depth_rows, policy_rows, pattern_rows, capture_rows, text_rows]
+    for maker in [*makers, input_rows, full_rows, request_rows, include_rows, line_rows]:
         yield from maker()

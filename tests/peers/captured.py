@@ -35,6 +35,20 @@ OTHERS = r"""
 &NAS-Port || "%{1}"
 &Calling-Station-Id =~ /(.)/
 &User-Name =~ /nosuch(.)/
+"%{User-Name}" =~ /(b)(o)/
+"%{Calling-Station-Id}" =~ /(x)?/
+"%{Calling-Station-Id}" !~ /(x)?$/m
+"%{Calling-Station-Id}" =~ /(.)/
+("%{User-Name}" =~ /(b)(o)/) && ("%{1}" =~ /(.)/)
+("%{User-Name}" =~ /(b)(o)/) && (("%{2}" =~ /(x)/) || ("%{1}" == ""))
+("%{User-Name}" =~ /(b(.))(.)/) && ("%{1}" !~ /(.)(.)/)
+("%{User-Name}" =~ /(b)(o)/) && ("%{1}%{2}" == "bo")
+(&User-Name =~ /(b)/) && (&User-Name == "%{1}ob")
+(&NAS-Port =~ /(.)/) && ("%{1}" == "07")
+"%{0}" =~ /(.*)/
+"%{1}" == "b"
+&User-Name == "%{1}"
+"%{1}" < "%{0}"
 """
 # An absent attribute ends the condition on a server, and here what comes after it captures.
 ENDED = '((&Calling-Station-Id == "x") || (&User-Name =~ /b(.)/)) && &Calling-Station-Id'
@@ -55,10 +69,8 @@ def asked(condition: str) -> str:
 
 # What a server takes, and the fault with which it is refused here.
 TAKEN = {
-    asked('"%{1}" == "bob"'): "E51",
-    asked('&User-Name == "%{1}"'): "E50",
     asked('"%{1}x"'): "E51",
-    asked('"%{10}"'): "E51",
+    asked('"%{10}"'): "E32",
     put("%{10}"): "E32",
     put("%{32}"): "E32",
 }

@@ -128,6 +128,9 @@ User-Name =~ /bob/
 &Tunnel-Type =~ /^VLAN$/
 &Tunnel-Type:1 =~ /VLAN/
 &Tunnel-Type:2 =~ /VLAN/
+"%{User-Name}" =~ /bob/
+"%{Calling-Station-Id}" !~ /02/
+!("%{Calling-Station-Id}" =~ /02/)
 """
 
 
@@ -173,8 +176,7 @@ TAKEN = {
     r"&User-Name =~ /b(?R)?o/": "E59",
     r"&User-Name =~ /%{NAS-Port}/": "E58",
     r"&User-Name[*] =~ /bob/": "E50",
-    r'"%{User-Name}x" =~ /bobx/': "E51",
-    r'"%{User-Name}" =~ /bob/': "E51",
+    r'"%{User-Name}x" =~ /bobx/': "E61",
 }
 # What is taken here alone.
 TAKEN_HERE = [r"&NAS-Identifier =~ /100%/", r"&User-Name =~ /[a--b]/"]
@@ -222,12 +224,21 @@ def numbers(lines: Iterable[str]) -> Set[int]:
     return {int(line.split('"')[1]) for line in lines}
 
 
-def check_held(subject: Subject, report: Report, folder: Path) -> None:
+class Conditions(NamedTuple):
+    """Requests by their names, conditions that hold of the same ones on both, and such that do not."""
+
+    of: str
+    requests: Dict[str, str]
+    alike: List[str]
+    different: List[Difference]
+
+
+def check_held(subject: Subject, report: Report, folder: Path, asked: Conditions) -> None:
     """Each condition holds of the same requests on both, but for the differences, which are exactly those."""
-    conditions = [*same(), *(different.condition for different in DIFFERENT)]
+    conditions = [*asked.alike, *(different.condition for different in asked.different)]
     (folder / "secret").write_text(SECRET + "\n")
     (folder / "policy").write_text(written(policy_of(conditions)))
-    wanted = {different.condition: different.requests for different in DIFFERENT}
+    wanted = {different.condition: different.requests for different in asked.different}
     checked = run([subject.program, "check", "--policy", "policy", *dictionaries_of(subject, folder)], folder)
     report.check("the program takes the conditions", [checked.errors.decode()] if checked.status else [])
     port = free_port()
@@ -237,13 +248,13 @@ def check_held(subject: Subject, report: Report, folder: Path) -> None:
             return
         theirs: Dict[str, Set[int]] = {}
         ours: Dict[str, Set[int]] = {}
-        for name, lines in REQUESTS.items():
+        for name, lines in asked.requests.items():
             theirs[name] = numbers(of_server(port, lines))
             ours[name] = numbers(of_program(subject, folder, lines))
     for at, condition in enumerate(conditions):
-        found = {name for name in REQUESTS if (at in theirs[name]) != (at in ours[name])}
+        found = {name for name in asked.requests if (at in theirs[name]) != (at in ours[name])}
         wrong = [f"a server's answer is another of {found}"] if found != wanted.get(condition, set()) else []
-        report.check(f"regular expressions beside a server: {condition}", wrong)
+        report.check(f"{asked.of} beside a server: {condition}", wrong)
 
 
 def is_taken_by_server(policy: str) -> bool:
@@ -264,11 +275,11 @@ def fault_of(subject: Subject, policy: str) -> str:
         return found.number if found else ""
 
 
-def check_refused(subject: Subject, report: Report) -> None:
+def check_refused(subject: Subject, report: Report, taken: Dict[str, str], refused: Dict[str, str], here: List[str]) -> None:
     """What is refused here, by its fault, and what of it by a server too."""
-    asked: List[Tuple[str, str, bool]] = [(text, fault, True) for text, fault in TAKEN.items()]
-    asked += [(text, fault, False) for text, fault in REFUSED.items()]
-    asked += [(text, "", False) for text in TAKEN_HERE]
+    asked: List[Tuple[str, str, bool]] = [(text, fault, True) for text, fault in taken.items()]
+    asked += [(text, fault, False) for text, fault in refused.items()]
+    asked += [(text, "", False) for text in here]
     policies = [policy_of([condition]) for condition, _, _ in asked]
     answers = on_all(lambda policy: (is_taken_by_server(policy), fault_of(subject, policy)), policies)
     for (condition, fault, is_taken), (is_taken_there, found) in zip(asked, answers):
@@ -277,10 +288,18 @@ def check_refused(subject: Subject, report: Report) -> None:
         report.check(f"{f'refused as {fault}' if fault else 'taken here alone'}: {condition}", wrong)
 
 
-def check(subject: Subject, report: Report) -> None:
+def is_installed(report: Report, of: str) -> bool:
+    """Whether there is a server to compare with."""
     if shutil.which(CLIENT) is None or shutil.which(SERVER) is None:
-        report.say(f"regular expressions beside a server: not tried, there is no {SERVER} or no {CLIENT}")
+        report.say(f"{of} beside a server: not tried, there is no {SERVER} or no {CLIENT}")
+        return False
+    return True
+
+
+def check(subject: Subject, report: Report) -> None:
+    asked = Conditions("regular expressions", REQUESTS, same(), DIFFERENT)
+    if not is_installed(report, asked.of):
         return
     with new_folder() as folder:
-        check_held(subject, report, folder)
-    check_refused(subject, report)
+        check_held(subject, report, folder, asked)
+    check_refused(subject, report, TAKEN, REFUSED, TAKEN_HERE)
