@@ -32,8 +32,8 @@ control
   Session-Timeout = 5
 result reject
 """
-# Its first run makes what searches for the expressions, whose caches are filled in the next ones too. Numbers and octets
-# are searched as they are printed. Texts are compared, with captures among them, and groups are searched.
+# Its first run makes what searches for the expressions, whose caches are filled in the next ones too. Numbers and
+# octets are searched as they are printed. Texts are compared, with captures among them, and groups are searched.
 SEARCHING = b"""# profile: wider
 if (&User-Name =~ /^b(o*)/) {
 	update reply { Reply-Message := "%{1}" }

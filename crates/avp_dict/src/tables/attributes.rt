@@ -108,7 +108,8 @@ impl Attributes {
         self.rows.as_slice()
     }
 
-    // Adds a line. The answer is the place of the last line before it with its name. If memory runs out, all are dropped.
+    // Adds a line. The answer is the place of the last line before it with its name. If memory runs out, all are
+    // dropped.
     fn put(&mut self, line: AttributeLine) -> Result<Option<usize>, AllocError>
         requires { length line.name ≤ max_name }
         ensures line { OnOk result (self.new ≡ self.old ++ line ∷ []) }
