@@ -6,13 +6,12 @@ use Rattle.avp_lists.specs.declared.pairs.Pair.{Pair}
 use Rattle.avp_lists.specs.declared.lists.State.{State}
 use Rattle.avp_dict.specs.Dictionary.{Dictionary}
 use Rattle.avp_unlang.specs.Captures.{Captures, captures_after, captures_in, no_captures}
-use Rattle.avp_unlang.specs.Evaluations.{cond_layer_captures, cond_uses_captures, evaluated, is_capture, side_has_captures}
+use Rattle.avp_unlang.specs.Evaluations.{cond_layer_captures, cond_uses_captures, is_capture, side_has_captures}
 use Rattle.avp_unlang.specs.PatternTruth.{instance_in, pattern_in}
 use Rattle.avp_unlang.specs.Resolutions.{meaning_put}
 use Rattle.avp_unlang.specs.Texts.{captures_after_text, is_met_by_texts}
 use Rattle.avp_unlang.specs.Truth.{printed_by}
 use Rattle.avp_unlang.specs.declared.codes.Code.{Code}
-use Rattle.avp_unlang.specs.declared.tree.Cond.{Cond}
 use Rattle.avp_unlang.specs.declared.tree.Cond.TheFolds.{fold-roll-Cond}
 use Rattle.avp_unlang.specs.declared.tree.Cond.TheOpen as layer
 use Rattle.avp_unlang.specs.declared.tree.Cond.TheVariants as ours

@@ -1,6 +1,5 @@
-use Rattle.std.proofs.Common.{◌≡◌, [], ◌∷◌, None, sym, ap, ap₂, ◌∙◌}
+use Rattle.std.proofs.Common.{[], ◌∷◌, sym, ap, ap₂, ◌∙◌}
 use Rattle.avp_unlang.specs.declared.tree.Statement.TheVariants.{If}
-use Rattle.radpolicy_import_conditions.specs.Opened.{Says}
 use Rattle.radpolicy_import_conditions.proofs.Opening.{not_some, nothing, sole}
 use Rattle.radpolicy_import_conditions.proofs.opened.says.Goals as goal
 
