@@ -541,6 +541,10 @@ impl<'a> ConditionReader<'a> {
             (Some(asked), Some(other)) if asked.is_asked() && !other.is_asked() => {
                 self.compared_with_asked(&other, turned(relation), &asked)
             }
+            // Where one is absent, a server compares the empty text in its place.
+            (Some(_), Some(_)) if left.is_text() && right.puts_in() => {
+                Err(Refusal::LeftOut(Reason::TwoTexts))
+            }
             _ => {
                 let comparison = self.comparison(left, relation, right)?;
                 Ok(ServerCondition::Compare(comparison))

@@ -86,7 +86,7 @@ fn no_other_is_captured(rt: HostRuntime) -> Result<(), Fail> {
 }
 
 // Whether a condition is left out for this reason.
-fn is_left_out(
+pub fn is_left_out(
     alloc: Global,
     profile: Profile,
     condition: &[u8],

@@ -1,5 +1,6 @@
 //! Texts that a server's conditions compare.
 
+use crate::captures::is_left_out;
 use crate::imports::{becomes, imported, settings_of};
 use avp_forms::Profile;
 use radpolicy_import_conditions::Difference;
@@ -102,6 +103,15 @@ fn left_out(rt: HostRuntime) -> Result<(), Fail> {
     assert!(rt; !stays(alloc, b"(&NAS-Port == \"1%{NAS-Port}\")")?);
     assert!(rt; !stays(alloc, b"(\"a%{sql:x}\" == \"b\")")?);
     assert!(rt; !stays(alloc, b"(\"a%{Attr-1}\" == \"b\")")?);
+    Ok(())
+}
+
+// A plain policy compares no texts, and two attributes are compared only where both are there.
+#[test]
+fn left_out_of_plain_policies(rt: HostRuntime) -> Result<(), Fail> {
+    let texts = b"(\"%{User-Name}\" == \"%{Reply-Message}\")";
+    let reason = b"a comparison of two texts";
+    assert!(rt; is_left_out(rt.alloc(), Profile::Plain, texts, reason)?);
     Ok(())
 }
 
