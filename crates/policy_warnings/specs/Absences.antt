@@ -14,6 +14,7 @@ use Rattle.avp_unlang.specs.declared.tree.Cond.TheFolds.{fold-Cond}
 use Rattle.avp_unlang.specs.declared.tree.Cond.TheOpen.{Cond-F, Any, All, Not, Last, Present, PresentSelected, Compare, CompareMeant, CompareTexts, Match, MatchText, MatchGroup, Captured}
 use Rattle.avp_unlang.specs.declared.tree.Cond.TheVariants as cond
 use Rattle.avp_unlang.specs.declared.tree.Matching.{Matching}
+use Rattle.avp_unlang.specs.declared.tree.TextComparison.{TextComparison}
 use Rattle.policy_warnings.specs.Answers.{server_truth, server_truth_by}
 use Rattle.policy_warnings.specs.Mentions.{comparison_mentions, implies, is_there, matching_mentions, meant_comparison_mentions, mentions, selected, side_mentions, whole}
 use Rattle.policy_warnings.specs.declared.absences.Absence.{Absence}
@@ -112,11 +113,20 @@ negated_comparison k = cond.Not (cond.Compare k)
 abbrev pub negated_matching : Matching → Cond
 negated_matching k = cond.Not (cond.Match k)
 
+abbrev pub negated_texts : TextComparison → Cond
+negated_texts k = cond.Not (cond.CompareTexts k)
+
 abbrev pub WarnsOfNegations : Type 0
 WarnsOfNegations = (k : Comparison) → warns_of_absence (negated_comparison k) ≡ true
 
 abbrev pub WarnsOfNegatedMatchings : Type 0
 WarnsOfNegatedMatchings = (k : Matching) → warns_of_absence (negated_matching k) ≡ true
+
+-- of an instance with a text
+abbrev pub WarnsOfNegatedTexts : Type 0
+WarnsOfNegatedTexts =
+    (k : TextComparison) (m : Mention) → side_mentions k.left ≡ m ∷ []
+    → warns_of_absence (negated_texts k) ≡ true
 
 -- where its attribute is absent, the condition is true, and a server takes it as false
 abbrev pub NegationsDiffer : Type 0
@@ -130,6 +140,13 @@ NegatedMatchingsDiffer =
     → is_there s (selected k.list k.id k.selection) ≡ false
     → (truth_by d (negated_matching k) s c ≡ true)
     × (server_truth_by d (negated_matching k) s c ≡ false)
+
+abbrev pub NegatedTextsDiffer : Type 0
+NegatedTextsDiffer =
+    (d : Dictionary) (k : TextComparison) (m : Mention) (s : State) (c : Code)
+    → side_mentions k.left ≡ m ∷ [] → is_there s m ≡ false
+    → (truth_by d (negated_texts k) s c ≡ true)
+    × (server_truth_by d (negated_texts k) s c ≡ false)
 
 -- as it is where no list has a pair
 abbrev pub EmptyLacks : Type 0

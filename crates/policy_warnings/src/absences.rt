@@ -7,7 +7,7 @@ ghost use Rattle.avp_dict.specs.Dictionary.{Dictionary};
 ghost use Rattle.avp_unlang.specs.Truth.{truth, truth_by};
 ghost use Rattle.avp_unlang.specs.declared.codes.Code.{Code};
 ghost use Rattle.avp_unlang.specs.declared.tree.Cond.{Cond};
-ghost use Rattle.policy_warnings.specs.Absences.{EmptyLacks, NegatedMatchingsDiffer, NegationsDiffer, WarnsOfNegatedMatchings, WarnsOfNegations, all_of, always, any_implies, any_of, asked, both, compared, either, negated, said_of, warns_of_absence};
+ghost use Rattle.policy_warnings.specs.Absences.{EmptyLacks, NegatedMatchingsDiffer, NegatedTextsDiffer, NegationsDiffer, WarnsOfNegatedMatchings, WarnsOfNegatedTexts, WarnsOfNegations, all_of, always, any_implies, any_of, asked, both, compared, either, negated, said_of, warns_of_absence};
 ghost use Rattle.policy_warnings.specs.Answers.{server_truth, server_truth_by};
 ghost use Rattle.policy_warnings.specs.Mentions.{comparand_mentions, comparison_mentions, matching_mentions, meant_comparand_mentions, meant_comparison_mentions, mentions, side_mentions};
 ghost use Rattle.policy_warnings.specs.ServerEvaluations.{CapturesAlike, TakesAlike};
@@ -293,13 +293,15 @@ pub fn warns_of_absence(cond: &Cond) -> bool
     is_overlooked(cond, cond)
 }
 
-/// Each comparison under `!` is warned of, and where its attribute is absent a server does otherwise. A law, as a call
-/// that does nothing.
-#[tactic(auto, using(crate::proofs::Negations::warned, crate::proofs::Negations::matching_warned, crate::proofs::Negations::lacks))]
+/// Each comparison of an attribute under `!` is warned of, and where it is absent a server does otherwise. A law, as a
+/// call that does nothing.
+#[tactic(auto, using(crate::proofs::Negations::warned, crate::proofs::Negations::matching_warned, crate::proofs::Negations::texts_warned, crate::proofs::Negations::lacks))]
 pub fn warns_of_negations()
     ensures warned { WarnsOfNegations }
     ensures differ { NegationsDiffer }
     ensures matchings_warned { WarnsOfNegatedMatchings }
     ensures matchings_differ { NegatedMatchingsDiffer }
+    ensures texts_warned { WarnsOfNegatedTexts }
+    ensures texts_differ { NegatedTextsDiffer }
     ensures lacks { EmptyLacks }
 {}
