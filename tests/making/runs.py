@@ -107,11 +107,12 @@ def check_side_by_side(copy: Copy, report: Report) -> None:
     wrong += [] if sorted(called) == sorted([f"try {CRATE}", *builds(copy)]) else [f"the kit was asked for {called}"]
     report.check("make run: two crates side by side", wrong)
     os.utime(copy.root / "crates/avp_dict/src/lib.rt")
-    ended = copy.make("run", AT_ONCE="2", RT_TOGETHER=",".join(pair), RT_FAILS=pair[0])
-    wrong = [] if ended.returncode and "avp_packet failed:" in ended.stdout else [f"{ended.returncode}: {ended.stdout!r}"]
+    # What comes next stands on the second, so that nothing more is begun whichever of the two ends first.
+    ended = copy.make("run", AT_ONCE="2", RT_TOGETHER=",".join(pair), RT_FAILS=pair[1])
+    wrong = [] if ended.returncode and "avp_forms failed:" in ended.stdout else [f"{ended.returncode}: {ended.stdout!r}"]
     wrong += [] if set(copy.calls()[-2:]) == set(pair) else [f"it went on with {copy.calls()}"]
     copy.make("run", AT_ONCE="2")
-    wrong += [] if pair[0] in copy.calls() and pair[1] not in copy.calls() else [f"then with {copy.calls()}"]
+    wrong += [] if pair[1] in copy.calls() and pair[0] not in copy.calls() else [f"then with {copy.calls()}"]
     report.check("make run: one of two crates fails", wrong)
 
 
