@@ -1,6 +1,6 @@
 -- Which value a text stands for under a name.
-use Rattle.std.specs.Prelude.{ℕ, ◌+◌, pos, neg_ℤ, ℤ, Bool, not, ◌&&◌, ◌||◌, ◌==◌, nat_le, if◌then◌else◌, List, [], ◌∷◌, drop, length, slice_index, Option, Some, None, Result, Ok, Err}
-use Rattle.std.specs.Option.{option_and_then, option_map, option_or}
+use Rattle.std.specs.Prelude.{ℕ, ◌+◌, pos, neg_ℤ, ℤ, Bool, true, false, not, ◌&&◌, ◌||◌, ◌==◌, nat_le, if◌then◌else◌, List, [], ◌∷◌, drop, length, slice_index, Option, Some, None, Result, Ok, Err}
+use Rattle.std.specs.Option.{option_and_then, option_map, option_map_or, option_or}
 use Rattle.std.specs.Result.{result_ok}
 use Rattle.std.specs.List.{slice_split}
 use Rattle.hex.specs.Hex.{decode_of}
@@ -142,3 +142,23 @@ unfoldable pub value_spelled : Named → List ℕ → Dictionary → Result Valu
 value_spelled name text dictionary =
     if is_barred name dictionary then Err NotWritable
     else unless_long name.id dictionary (spelled name text dictionary)
+
+-- ---- memory
+
+-- a type that keeps a text's octets: a string the text's own, and octets those of `0x` and digits, and the text's own
+-- where the type word allows it
+abbrev pub keeps_text : Kind → Bool → List ℕ → Bool
+keeps_text kinds.Text takes_text text = true
+keeps_text kinds.Bytes takes_text text = takes_text || is_hexadecimal text
+keeps_text kind takes_text text = false
+
+abbrev pub is_kept_by : List ℕ → Typing → Bool
+is_kept_by text typing = keeps_text typing.kind typing.takes_text text
+
+-- memory is taken for a text under a name: only where the name is writable, and for `0x` and digits under a name by
+-- number, and else for a text whose octets the type keeps
+unfoldable pub takes_memory : Named → List ℕ → Dictionary → Bool
+takes_memory name text dictionary =
+    not (is_barred name dictionary)
+    && (if name.raw then is_hexadecimal text
+    else option_map_or (is_kept_by text) (typing_of_id name.id dictionary.attributes) false)

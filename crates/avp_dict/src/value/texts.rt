@@ -1,14 +1,14 @@
 //! Texts of values.
 
-ghost use Rattle.std.specs.Prelude.{◌≡◌, ◌+◌, ◌∷◌, [], IfOk, ℕ, Option, pos};
+ghost use Rattle.std.specs.Prelude.{◌≡◌, ◌+◌, ◌∷◌, [], false, true, IfErr, IfOk, OnErr, ℕ, Option, pos};
 ghost use Rattle.std.specs.Option.{option_and_then, option_map};
 ghost use Rattle.avp_lists.specs.Meets.{Meets};
 ghost use Rattle.avp_dict.specs.AttributeNumbers.{greatest_signed};
 ghost use Rattle.avp_dict.specs.Outcomes.{is_memory_value};
 ghost use Rattle.avp_dict.specs.Sent.{is_container};
-ghost use Rattle.avp_dict.specs.Spellings.{address_spelled, bytes_spelled, decimal_octet, digit_pair, each_number, ether_spelled, is_barred, negated, number_spelled, number_up_to, octets_spelled, signed_spelled, spelled, spelled_by, up_to, value_spelled};
+ghost use Rattle.avp_dict.specs.Spellings.{address_spelled, bytes_spelled, decimal_octet, digit_pair, each_number, ether_spelled, is_barred, is_kept_by, keeps_text, negated, number_spelled, number_up_to, octets_spelled, signed_spelled, spelled, spelled_by, takes_memory, up_to, value_spelled};
 ghost use Rattle.avp_dict.specs.Values.{max_of};
-ghost use Rattle.avp_dict.specs.Words.{digits};
+ghost use Rattle.avp_dict.specs.Words.{digits, is_hexadecimal};
 ghost use Rattle.avp_dict.specs.internal.Numbers.{Reads};
 
 use crate::attribute_numbers::{VENDOR_SPECIFIC, is_extended_type};
@@ -25,7 +25,8 @@ use std::alloc::{AllocError, Global};
 // The octets that `0x` and hexadecimal digits stand for.
 #[tactic(auto, unfolding(crate::specs::Spellings::octets_spelled))]
 fn octets_spelled(alloc: Global, text: &[u8]) -> Result<Option<Octets>, AllocError>
-    ensures { IfOk result (λ octets. octets ≡ octets_spelled text.now) }
+    ensures read { IfOk result (λ octets. octets ≡ octets_spelled text.now) }
+    ensures memory { OnErr result (is_hexadecimal text.now ≡ true) }
 {
     match text {
         [b'0', b'x', digits @ ..] => match hex::decode(alloc, digits) {
@@ -40,7 +41,8 @@ fn octets_spelled(alloc: Global, text: &[u8]) -> Result<Option<Octets>, AllocErr
 // The octets of a text, and those of `0x` and hexadecimal digits.
 #[tactic(auto, unfolding(crate::specs::Spellings::bytes_spelled))]
 fn bytes_spelled(alloc: Global, takes_text: bool, text: &[u8]) -> Result<Option<Octets>, AllocError>
-    ensures { IfOk result (λ octets. octets ≡ bytes_spelled takes_text text.now) }
+    ensures read { IfOk result (λ octets. octets ≡ bytes_spelled takes_text text.now) }
+    ensures memory { OnErr result (keeps_text Kind.Bytes takes_text text.now ≡ true) }
 {
     match text {
         [b'0', b'x', ..] => octets_spelled(alloc, text),
@@ -205,7 +207,8 @@ impl Dictionary {
         id: AttrId,
         text: &[u8],
     ) -> Result<Option<Value>, AllocError>
-        ensures { IfOk result (λ value. value ≡ spelled_by id text.now self.now typing) }
+        ensures read { IfOk result (λ value. value ≡ spelled_by id text.now self.now typing) }
+        ensures memory { OnErr result (is_kept_by text.now typing ≡ true) }
     {
         match typing.kind {
             Kind::Text => Ok(Some(Value::Text(Octets::from_slice(alloc, text)?))),
@@ -221,13 +224,15 @@ impl Dictionary {
     }
 
     // The value of a text, its length aside.
-    #[tactic(auto, unfolding(crate::specs::Spellings::spelled))]
+    #[tactic(auto, unfolding(crate::specs::Spellings::spelled, crate::specs::Spellings::takes_memory))]
     fn spelled(&self, alloc: Global, name: Named, text: &[u8]) -> Result<Option<Value>, AllocError>
-        ensures { IfOk result (λ value. value ≡ spelled name text.now self.now) }
+        ensures read { IfOk result (λ value. value ≡ spelled name text.now self.now) }
+        ensures memory { is_barred name self.now ≡ false
+            → OnErr result (takes_memory name text.now self.now ≡ true) }
     {
         if name.raw {
             match octets_spelled(alloc, text)? {
-                Some(octets) => Ok(Some(self.value_of_bytes(alloc, name.id, octets.as_slice())?)),
+                Some(octets) => Ok(Some(self.value_of_vec(name.id, octets.into_vec()))),
                 None => Ok(None),
             }
         } else {
@@ -266,6 +271,10 @@ impl Dictionary {
         ensures answers { Meets is_memory_value result (value_spelled named text.now self.now) }
         ensures only { IfOk result (λ value. (other : Value) → value_spelled named text.now self.now
             ≡ Ok other → other ≡ value) }
+
+        // So want of memory hides no other refusal where no octets are kept.
+        ensures memory { IfErr result (λ fault. fault ≡ ValueFault.Memory
+            → takes_memory named text.now self.now ≡ true) }
     {
         if self.is_barred(named) {
             return Err(ValueFault::NotWritable);
