@@ -1,5 +1,5 @@
 -- Which octets a value has, and which value octets stand for.
-use Rattle.std.specs.Prelude.{ℕ, ◌-◌, Bool, false, not, ◌&&◌, ◌==◌, nat_le, if◌then◌else◌, List, length, slice_get, Option, Some, None}
+use Rattle.std.specs.Prelude.{ℕ, ◌-◌, Bool, false, true, not, ◌&&◌, ◌==◌, nat_le, if◌then◌else◌, List, length, slice_get, Option, Some, None}
 use Rattle.std.specs.Option.{option_and_then, option_map, option_map_or, unwrap_or}
 use Rattle.std.specs.Int.{to_be_bytes, cast_signed, cast_unsigned, w8, w16, w32, w64}
 use Rattle.std.specs.Int.Digits.{number_from_digits}
@@ -47,6 +47,13 @@ octets_of kind (Raw os) = os
 
 unfoldable pub octets : AttrId → Value → Dictionary → List ℕ
 octets id value dictionary = octets_of (kind_of id dictionary) value
+
+-- a value whose octets are kept in memory of their own: those of strings, of octets, and raw ones
+abbrev pub keeps_octets : Value → Bool
+keeps_octets (values.Text os) = true
+keeps_octets (values.Bytes os) = true
+keeps_octets (Raw os) = true
+keeps_octets value = false
 
 -- ---- the value of octets
 

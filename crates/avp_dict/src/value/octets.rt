@@ -1,10 +1,10 @@
 //! Octets of values.
 
-ghost use Rattle.std.specs.Prelude.{◌≡◌, ◌≤◌, length, false, Some, IfOk, IsTrue};
+ghost use Rattle.std.specs.Prelude.{◌≡◌, ◌≤◌, length, false, true, Some, IfOk, IsTrue, OnErr};
 ghost use Rattle.std.specs.Option.{unwrap_or};
 ghost use Rattle.avp_lists.specs.declared.pairs.Value.TheVariants.{Raw};
 ghost use Rattle.avp_dict.specs.Limits.{fits};
-ghost use Rattle.avp_dict.specs.Octets.{ends_in_nul, is_hidden, is_hideable, kind_of, number_octets, number_value, octets, octets_of, of_length, read_value, signed_value, value_of_octets, value_read};
+ghost use Rattle.avp_dict.specs.Octets.{ends_in_nul, is_hidden, is_hideable, keeps_octets, kind_of, number_octets, number_value, octets, octets_of, of_length, read_value, signed_value, value_of_octets, value_read};
 ghost use Rattle.avp_dict.specs.Types.{is_text_kind};
 
 use crate::dictionaries::Dictionary;
@@ -129,7 +129,9 @@ fn read_sized(kind: Kind, octets: &[u8]) -> Option<Value>
 }
 
 fn value_read(alloc: Global, kind: Kind, octets: &[u8]) -> Result<Option<Value>, AllocError>
-    ensures { IfOk result (λ value. value ≡ value_read kind octets.now) }
+    ensures read { IfOk result (λ value. value ≡ value_read kind octets.now) }
+    ensures memory { OnErr result
+        (keeps_octets (unwrap_or (value_read kind octets.now) (Raw octets.now)) ≡ true) }
 {
     match kind {
         Kind::Text => Ok(Some(Value::Text(Octets::from_slice(alloc, octets)?))),
@@ -204,14 +206,16 @@ impl Dictionary {
     }
 
     // The value of the id's type with these octets.
-    #[tactic(auto, unfolding(crate::specs::Octets::read_value))]
+    #[tactic(auto, unfolding(crate::specs::Octets::read_value, crate::specs::Octets::value_of_octets))]
     fn read_value(
         &self,
         alloc: Global,
         id: AttrId,
         octets: &[u8],
     ) -> Result<Option<Value>, AllocError>
-        ensures { IfOk result (λ value. value ≡ read_value id octets.now self.now) }
+        ensures read { IfOk result (λ value. value ≡ read_value id octets.now self.now) }
+        ensures memory { OnErr result
+            (keeps_octets (value_of_octets id octets.now self.now) ≡ true) }
     {
         match self.by_id(id) {
             Some(entry) => {
@@ -242,7 +246,9 @@ impl Dictionary {
         id: AttrId,
         octets: &[u8],
     ) -> Result<Value, AllocError>
-        ensures { IfOk result (λ value. value ≡ value_of_octets id octets.now self.now) }
+        ensures read { IfOk result (λ value. value ≡ value_of_octets id octets.now self.now) }
+        ensures memory { OnErr result
+            (keeps_octets (value_of_octets id octets.now self.now) ≡ true) }
     {
         match self.read_value(alloc, id, octets)? {
             Some(value) => Ok(value),
