@@ -13,7 +13,7 @@ use Rattle.avp_dict.specs.LineNumbers.{line_after}
 use Rattle.avp_dict.specs.RefusedPlaces.{is_before_filled, line_from}
 use Rattle.avp_dict.specs.WordPlaces.{IsWordPlace, after_lines, from_filled, from_word, word_offset}
 use Rattle.avp_dict.specs.Words.{is_blank, is_hash, is_word, words_of}
-use Rattle.avp_dict.specs.internal.LineEnds.{IsEnd}
+use Rattle.avp_dict.specs.Lines.{IsEnd}
 
 -- ---- what octets end with
 

@@ -1,5 +1,5 @@
 -- The lines of a file set, as one list: each line that includes a file is followed by the lines of that file.
-use Rattle.std.specs.Prelude.{codes, IsTrue, ℕ, zero, suc, ◌+◌, ◌-◌, Bool, true, not, ◌==◌, ◌&&◌, ◌||◌, if◌then◌else◌, List, [], ◌∷◌, ◌++◌, Option, Some, None, slice_get}
+use Rattle.std.specs.Prelude.{◌≡◌, codes, IsTrue, ℕ, zero, suc, ◌+◌, ◌-◌, Bool, true, not, ◌==◌, ◌&&◌, ◌||◌, if◌then◌else◌, List, [], ◌∷◌, ◌++◌, Option, Some, None, slice_get}
 use Rattle.std.specs.Option.{option_and_then, option_map_or}
 use Rattle.std.specs.List.{onto_first, position, list_any}
 use Rattle.std.specs.Str.{bytes_eq}
@@ -21,6 +21,10 @@ is_line_end o = o == line_feed
 abbrev pub texts_of : List ℕ → List (List ℕ)
 texts_of [] = []
 texts_of (o ∷ os) = if o == line_feed then [] ∷ texts_of os else onto_first o (texts_of os)
+
+-- octets end so: what is left of them after the front
+abbrev pub IsEnd : List ℕ → List ℕ → Type 0
+IsEnd rest octets = (front : List ℕ) × (octets ≡ front ++ rest)
 
 -- what follows the last slash of the octets, or else the last part so far
 abbrev pub last_part : List ℕ → List ℕ → List ℕ

@@ -18,10 +18,6 @@ use Rattle.avp_dict.specs.declared.value.faults.ValueFault.{ValueFault}
 use Rattle.avp_dict.specs.declared.value.faults.ValueFault.TheVariants as faults
 use Rattle.avp_dict.specs.internal.LineReading.{after_pairs}
 
--- octets end so
-abbrev pub IsEnd : List ℕ → List ℕ → Type 0
-IsEnd rest octets = (front : List ℕ) × (octets ≡ front ++ rest)
-
 -- octets end so, and what is before is blanks
 abbrev pub IsBlanksBefore : List ℕ → List ℕ → Type 0
 IsBlanksBefore rest octets =

@@ -8,7 +8,7 @@ ghost use Rattle.avp_lists.specs.States.{max_pairs};
 ghost use Rattle.avp_lists.specs.declared.pairs.Pair.{Pair};
 ghost use Rattle.avp_dict.specs.Limits.{fits};
 ghost use Rattle.avp_dict.specs.LineNumbers.{line_after};
-ghost use Rattle.avp_dict.specs.Lines.{is_line_end, texts_of};
+ghost use Rattle.avp_dict.specs.Lines.{IsEnd, is_line_end, texts_of};
 ghost use Rattle.avp_dict.specs.Outcomes.{is_memory_line};
 ghost use Rattle.avp_dict.specs.RefusedPlaces.{IsOutOfMemoryAt, IsRefusedAfter, IsRefusedAt, is_before_filled};
 ghost use Rattle.avp_dict.specs.RequestLines.{Comma, is_blank_line, is_idle_line, pairs_of, tokens_at, value_text, without_front};
@@ -16,7 +16,7 @@ ghost use Rattle.avp_dict.specs.Names.{named};
 ghost use Rattle.avp_dict.specs.Requests.{pair_assigned, pair_named, refusal_named, request_by, request_spelled};
 ghost use Rattle.avp_dict.specs.Sent.{is_clean};
 ghost use Rattle.avp_dict.specs.declared.value.faults.ValueFault.TheVariants.{NotWritable};
-ghost use Rattle.avp_dict.specs.internal.LineEnds.{IsCountKind, IsEnd, IsIdleRead, IsLexed, IsNoComma, IsOutLine, IsOutPair, IsPairRead, IsRefusedEnd, IsRefusedLine, IsRefusedPair, IsRefusedText, IsRefusedToken, refused_from};
+ghost use Rattle.avp_dict.specs.internal.LineEnds.{IsCountKind, IsIdleRead, IsLexed, IsNoComma, IsOutLine, IsOutPair, IsPairRead, IsRefusedEnd, IsRefusedLine, IsRefusedPair, IsRefusedText, IsRefusedToken, refused_from};
 ghost use Rattle.avp_dict.specs.internal.LineReading.{IsNoRequest, after_pairs, assigned_after, pair_of_token, pairs_after, pairs_at};
 ghost use Rattle.avp_dict.specs.internal.RequestTokens.{is_ended, side_after, token_view};
 
