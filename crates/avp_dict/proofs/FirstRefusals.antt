@@ -7,7 +7,7 @@ use Rattle.avp_lists.specs.States.{max_pairs}
 use Rattle.avp_lists.specs.declared.pairs.Pair.{Pair}
 use Rattle.avp_dict.specs.Lines.{is_line_end, texts_of}
 use Rattle.avp_dict.specs.Outcomes.{is_memory_line, is_memory_value}
-use Rattle.avp_dict.specs.RefusedPlaces.{IsOutOfMemoryAt, IsOutOfMemoryFor, IsPlace, IsRefusedAfter, IsRefusedAt, IsRefusedFor, after_packet, for_pair, for_value, in_line, in_packet, line_from, lines_before, no_comma, no_value, not_value, not_writable, out_of_memory, pairs_before, read_before, too_long, too_many}
+use Rattle.avp_dict.specs.RefusedPlaces.{IsOutOfMemoryAt, IsOutOfMemoryFor, IsPlace, IsRefusedAfter, IsRefusedAt, IsRefusedFor, after_packet, for_pair, for_value, in_line, in_packet, line_from, lines_before, no_comma, no_value, not_value, not_writable, out_of_memory, pairs_before, read_before, takes_for_token, too_long, too_many}
 use Rattle.avp_dict.specs.RefusedPlaces.IsRefusedAfter.{no_name, second_packet}
 use Rattle.avp_dict.specs.RequestLines.{Assignment, Token, Sign, Run, is_blank_line, is_idle_line, joined, tokens_at, value_text, without_front}
 use Rattle.avp_dict.specs.Requests.{each_pair, few_enough, pair_assigned}
@@ -129,27 +129,28 @@ module _ {T : Type 0} (target_of : List ℕ → Option T) (pair_of : T → List 
       (λ count. value_refused count line text kind left name target value tokens none refused known there lexed is)
 
   -- where memory runs out for a value
-  pub value_out : (line text : List ℕ) (left : ℕ) (name : List ℕ) (target : T) (value : Token) (tokens : List Token)
+  pub value_out : (takes_memory : T → List ℕ → Bool) (line text : List ℕ) (left : ℕ) (name : List ℕ) (target : T) (value : Token) (tokens : List Token)
       → value_text value ≢ None
       → option_and_then (refusal_of target) (value_text value) ≢ Some faults.NotWritable
+      → takes_for_token (takes_memory target) value ≡ true
       → target_of name ≡ Some target
       → tokens_at Value text ≡ value ∷ tokens
       → IsLexed Name line (Run name ∷ Sign ∷ []) Value text
       → left ≡ length text
-      → (count : ℕ) → IsOutPair target_of pair_of refusal_of count line left
-  value_out line text left name target value tokens some writable known there lexed is count = record {
+      → (count : ℕ) → IsOutPair target_of pair_of refusal_of takes_memory count line left
+  value_out takes_memory line text left name target value tokens some writable taken known there lexed is count = record {
     inner = Run name ∷ Sign ∷ [];
     side = Value;
     rest = text;
     lexed = lexed;
     left_is = is;
-    refused = subst (λ ts. IsOutOfMemoryFor target_of pair_of refusal_of count (Run name ∷ Sign ∷ []) Value ts) (sym there)
-        (for_value name value tokens (λ none. let it = sym known ∙ none in cc) some (rw known writable));
+    refused = subst (λ ts. IsOutOfMemoryFor target_of pair_of refusal_of takes_memory count (Run name ∷ Sign ∷ []) Value ts) (sym there)
+        (for_value name target value tokens known some (rw known writable) taken);
   }
 
   -- where it does for a pair
-  pub pair_out : (pairs : List Pair) (line rest : List ℕ) (pair : Pair) (left : ℕ) → length pairs < max_pairs → IsPairRead target_of pair_of line pair rest → left ≡ length line → IsOutPair target_of pair_of refusal_of (length pairs) line left
-  pair_out pairs line rest pair left few first is =
+  pub pair_out : (takes_memory : T → List ℕ → Bool) (pairs : List Pair) (line rest : List ℕ) (pair : Pair) (left : ℕ) → length pairs < max_pairs → IsPairRead target_of pair_of line pair rest → left ≡ length line → IsOutPair target_of pair_of refusal_of takes_memory (length pairs) line left
+  pair_out takes_memory pairs line rest pair left few first is =
       let room : nat_lt (length pairs) max_pairs ≡ true = grind (arith, common_steps) in
       let there = lexed_whole Name line (Run first.name ∷ Sign ∷ first.value ∷ []) Value rest first.lexed in
       record {
@@ -158,7 +159,7 @@ module _ {T : Type 0} (target_of : List ℕ → Option T) (pair_of : T → List 
         rest = line;
         lexed = lexed_none Name line;
         left_is = is;
-        refused = subst (λ ts. IsOutOfMemoryFor target_of pair_of refusal_of (length pairs) [] Name ts) (sym there)
+        refused = subst (λ ts. IsOutOfMemoryFor target_of pair_of refusal_of takes_memory (length pairs) [] Name ts) (sym there)
             (for_pair first.name first.value pair (tokens_at Value rest) first.read room);
       }
 
@@ -244,9 +245,9 @@ module _ {T : Type 0} (target_of : List ℕ → Option T) (pair_of : T → List 
       let parts = line_stopped (λ n. IsFor n kind) text rest line pairs left place here read some is past in
       in_packet kind place here.side read.lines here.before here.inner here.pairs parts.0 parts.1 parts.2
 
-  pub line_out_at : (text rest line : List ℕ) (pairs : List Pair) (left place : ℕ) → IsOutLine target_of pair_of refusal_of pairs line left → IsPacketRead target_of pair_of text pairs rest → 0 < length rest → line ≡ before_first is_line_end rest → IsPastBlanks text (length text - (left + (length rest - length line))) place → IsOutOfMemoryAt target_of pair_of refusal_of text place
-  line_out_at text rest line pairs left place here read some is past =
-      let parts = line_stopped (IsOutOfMemoryFor target_of pair_of refusal_of) text rest line pairs left place here read some is past in
+  pub line_out_at : (takes_memory : T → List ℕ → Bool) (text rest line : List ℕ) (pairs : List Pair) (left place : ℕ) → IsOutLine target_of pair_of refusal_of takes_memory pairs line left → IsPacketRead target_of pair_of text pairs rest → 0 < length rest → line ≡ before_first is_line_end rest → IsPastBlanks text (length text - (left + (length rest - length line))) place → IsOutOfMemoryAt target_of pair_of refusal_of takes_memory text place
+  line_out_at takes_memory text rest line pairs left place here read some is past =
+      let parts = line_stopped (IsOutOfMemoryFor target_of pair_of refusal_of takes_memory) text rest line pairs left place here read some is past in
       in_line place here.side read.lines here.before here.inner here.pairs parts.0 parts.1 parts.2
 
   pub line_refused_at : (kind : LineKind) (text rest line : List ℕ) (pairs : List Pair) (left place : ℕ) → Unless (is_memory_line kind) (IsRefusedLine target_of pair_of refusal_of pairs line kind left) → IsPacketRead target_of pair_of text pairs rest → 0 < length rest → line ≡ before_first is_line_end rest → IsPastBlanks text (length text - (left + (length rest - length line))) place → IsAt text kind place

@@ -6,7 +6,7 @@ use Rattle.avp_lists.specs.States.{max_pairs}
 use Rattle.avp_lists.specs.declared.pairs.Pair.{Pair}
 use Rattle.avp_dict.specs.Ascii.{comma}
 use Rattle.avp_dict.specs.Lines.{is_line_end, texts_of}
-use Rattle.avp_dict.specs.RequestLines.{Assignment, Comma, Run, Sign, Token, assigned, is_blank_line, is_idle_line, joined, line_assignments, tokens_at, value_text, without_front}
+use Rattle.avp_dict.specs.RequestLines.{Assignment, Comma, Quoted, Run, Sign, Token, assigned, is_blank_line, is_idle_line, joined, line_assignments, tokens_at, value_text, without_front}
 use Rattle.avp_dict.specs.Requests.{each_pair, few_enough, pair_assigned}
 use Rattle.avp_dict.specs.Words.{is_blank}
 use Rattle.avp_dict.specs.declared.request.faults.LineKind.{LineKind}
@@ -81,6 +81,13 @@ abbrev pub first_text : List Token → Option (List ℕ)
 first_text [] = None
 first_text (token ∷ tokens) = value_text token
 
+-- Whether memory is taken for the token of a value, by the texts for which it is: what is between quotes is written into
+-- memory to be read.
+abbrev pub takes_for_token : (List ℕ → Bool) → Token → Bool
+takes_for_token takes_memory (Run octets) = takes_memory octets
+takes_for_token takes_memory (Quoted mark octets) = true
+takes_for_token takes_memory _ = false
+
 -- what is refused after the end of a packet, where a line begins with these tokens
 pub data IsRefusedAfter : LineKind → List Token → Type 0 where
   second_packet : (name : List ℕ) (tokens : List Token)
@@ -135,17 +142,6 @@ module _ {T : Type 0} (target_of : List ℕ → Option T) (pair_of : T → List 
         → begins_with_comma (token ∷ tokens) ≡ false
         → IsRefusedFor count kinds.Unreadable (Run name ∷ Sign ∷ value ∷ []) Value (token ∷ tokens)
 
-  -- What memory runs out for, after so many pairs and these tokens of the next one, on this side of its `=`: a value
-  -- under a name that is writable, or a pair that was read and is none too many.
-  pub data IsOutOfMemoryFor (count : ℕ) : List Token → Side → List Token → Type 0 where
-    for_value : (name : List ℕ) (value : Token) (tokens : List Token)
-        → target_of name ≢ None → value_text value ≢ None
-        → of_pair target_of refusal_of name value ≢ Some faults.NotWritable
-        → IsOutOfMemoryFor count (Run name ∷ Sign ∷ []) Value (value ∷ tokens)
-    for_pair : (name : List ℕ) (value : Token) (pair : Pair) (tokens : List Token)
-        → of_pair target_of pair_of name value ≡ Some pair → nat_lt count max_pairs ≡ true
-        → IsOutOfMemoryFor count [] Name (Run name ∷ Sign ∷ value ∷ tokens)
-
   -- ---- the first refused place
 
   -- a text is refused for this after so many octets: on a line of its packet, or after the line of blanks that ends it;
@@ -168,13 +164,29 @@ module _ {T : Type 0} (target_of : List ℕ → Option T) (pair_of : T → List 
         → IsRefusedAt text kind offset
     out_of_memory : (offset : ℕ) → IsRefusedAt text kinds.Memory offset
 
-  -- Memory ran out after so many octets of a text, on a line of its packet. So it hides no other refusal than that the
-  -- value there is none or is too long, or that its pair is one too many: before it are lines and pairs that are read.
-  pub data IsOutOfMemoryAt (text : List ℕ) : ℕ → Type 0 where
-    in_line : (offset : ℕ) (side : Side) (lines : List (List ℕ)) (before inner : List Token)
-        (pairs : List Pair)
-        → IsPlace text offset lines (before ++ inner) side
-        → read_before (pair_assigned target_of pair_of) (without_front is_idle_line lines) before
-        ≡ Some pairs
-        → IsOutOfMemoryFor (length pairs) inner side (tokens_at side (line_from text offset))
-        → IsOutOfMemoryAt text offset
+  -- ---- the place where memory runs out, by the texts for which it is taken under what a name stands for
+
+  module _ (takes_memory : T → List ℕ → Bool) where
+    -- What memory runs out for, after so many pairs and these tokens of the next one, on this side of its `=`: a value
+    -- under a name that is writable, if memory is taken for it, or a pair that was read and is none too many.
+    pub data IsOutOfMemoryFor (count : ℕ) : List Token → Side → List Token → Type 0 where
+      for_value : (name : List ℕ) (target : T) (value : Token) (tokens : List Token)
+          → target_of name ≡ Some target → value_text value ≢ None
+          → of_pair target_of refusal_of name value ≢ Some faults.NotWritable
+          → takes_for_token (takes_memory target) value ≡ true
+          → IsOutOfMemoryFor count (Run name ∷ Sign ∷ []) Value (value ∷ tokens)
+      for_pair : (name : List ℕ) (value : Token) (pair : Pair) (tokens : List Token)
+          → of_pair target_of pair_of name value ≡ Some pair → nat_lt count max_pairs ≡ true
+          → IsOutOfMemoryFor count [] Name (Run name ∷ Sign ∷ value ∷ tokens)
+
+    -- Memory ran out after so many octets of a text, on a line of its packet. So it hides no other refusal than that the
+    -- value there is none or is too long, or that its pair is one too many: before it are lines and pairs that are
+    -- read.
+    pub data IsOutOfMemoryAt (text : List ℕ) : ℕ → Type 0 where
+      in_line : (offset : ℕ) (side : Side) (lines : List (List ℕ)) (before inner : List Token)
+          (pairs : List Pair)
+          → IsPlace text offset lines (before ++ inner) side
+          → read_before (pair_assigned target_of pair_of) (without_front is_idle_line lines) before
+          ≡ Some pairs
+          → IsOutOfMemoryFor (length pairs) inner side (tokens_at side (line_from text offset))
+          → IsOutOfMemoryAt text offset

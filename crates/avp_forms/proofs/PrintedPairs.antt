@@ -1,7 +1,6 @@
 -- What is printed for a pair in the wider profile is read back.
-use Rattle.std.proofs.Common.{◌≡◌, ◌∙◌, ℕ, ℤ, ◌≤◌, true, false, not, ◌&&◌, ◌||◌, ◌==◌, nat_le, List, [], ◌∷◌, ◌++◌, length, Option, Some, None, IfSome, is_some, Ok, refl, sym, ap, subst, arith, append-nil, le-leb, leb-true, option_map, option_and_then, unwrap_or}
+use Rattle.std.proofs.Common.{◌≡◌, ◌∙◌, ℕ, ℤ, ◌≤◌, true, false, not, ◌&&◌, ◌||◌, ◌==◌, nat_le, nat_lt, List, [], ◌∷◌, ◌++◌, length, Option, Some, None, IfSome, is_some, Ok, refl, sym, ap, subst, arith, append-nil, le-leb, leb-true, option_map, option_and_then, unwrap_or}
 use Rattle.std.specs.Option.{option_map_or}
-use Rattle.std.proofs.Math.Bool.{and-false}
 use Rattle.std.proofs.NetLemmas.Options.{cond_none, cond_some}
 use Rattle.std.proofs.lemmas.Bool.{and_parts, cond_both, not-true}
 use Rattle.std.proofs.lemmas.Grind.{common_steps}
@@ -37,7 +36,7 @@ use Rattle.avp_forms.specs.Printing.{meant_text, printed_meaning, printed_pair_n
 use Rattle.avp_forms.specs.Targets.{has_tag, target_of}
 use Rattle.avp_forms.specs.Texts.{form_spelled, printed_text, text_of, value_spelled}
 use Rattle.avp_forms.specs.Values.{is_own, is_proper, max_tag, max_tagged_number, meaning, meaning_of_value, octets_of, tag_of, tagged_text_meant, value_of, with_tag}
-use Rattle.avp_forms.specs.Written.{meant_value, value_written}
+use Rattle.avp_forms.specs.Written.{bars_text, meant_value, value_written}
 use Rattle.avp_forms.specs.internal.Ranges.{AreBytesInRange, IsInRange}
 use Rattle.avp_forms.specs.declared.profiles.Profile.TheVariants.{Wider}
 use Rattle.avp_forms.specs.declared.values.FormValue.{FormValue}
@@ -205,6 +204,14 @@ tag_facts (Ipv6Prefix os n) proper tag e = absurd (cc)
 tag_facts (Ipv4Prefix os n) proper tag e = absurd (cc)
 tag_facts (InterfaceId os) proper tag e = absurd (cc)
 
+-- a tag that is none too great bars no text but octets
+free_tag : (t : Option ℕ) (text : List ℕ) → ((tag : ℕ) → t ≡ Some tag → tag ≤ max_tag) → is_hexadecimal text ≡ false → bars_text t text ≡ false
+free_tag None text small plain = refl
+free_tag (Some tag) text small plain =
+    let fits = small tag refl in
+    let no : nat_lt max_tag tag ≡ false = grind (arith, common_steps) in
+    rw (no, plain) refl
+
 -- ---- pairs
 
 module _ (d : Dictionary) (sound : IsSound d) (id : AttrId) where
@@ -216,10 +223,10 @@ module _ (d : Dictionary) (sound : IsSound d) (id : AttrId) where
       go None e = absurd (cc)
       go (Some a) e = (described_by a, refl)
 
-  form_written : (form : Form) (meant : FormValue) (t : Option ℕ) (text : List ℕ) (offset : Option ℤ) → is_container id ≡ false → is_hexadecimal text ≡ false → form_of id d ≡ Some form → is_as_typed form ≡ false → option_map (with_tag (unwrap_or t 0)) (form_spelled form id offset text d) ≡ Some meant → nat_le (length (octets_of meant)) (greatest_length id d) ≡ true → value_written Wider (record { named = record { id = id; raw = false }; tag = t }) text offset d ≡ Ok (value_of meant)
+  form_written : (form : Form) (meant : FormValue) (t : Option ℕ) (text : List ℕ) (offset : Option ℤ) → is_container id ≡ false → is_hexadecimal text ≡ false → bars_text t text ≡ false → form_of id d ≡ Some form → is_as_typed form ≡ false → option_map (with_tag (unwrap_or t 0)) (form_spelled form id offset text d) ≡ Some meant → nat_le (length (octets_of meant)) (greatest_length id d) ≡ true → value_written Wider (record { named = record { id = id; raw = false }; tag = t }) text offset d ≡ Ok (value_of meant)
   unfolding value_written value_spelled
-  form_written form meant t text offset alone plain formed typed back short =
-      rw (alone, plain, and-false (is_some t), formed, typed, back, short)
+  form_written form meant t text offset alone plain free formed typed back short =
+      rw (alone, free, plain, formed, typed, back, short)
 
   module _ (value : Value) (meant : FormValue) where
     record IsPrinted : Type 0 where
@@ -287,7 +294,7 @@ module _ (d : Dictionary) (sound : IsSound d) (id : AttrId) where
           same = refl;
           written = λ offset.
               rw (text_is printed, text)
-              (form_written form meant (tag_of meant) (text_of id meant d) offset alone parts.plain parts.formed typed
+              (form_written form meant (tag_of meant) (text_of id meant d) offset alone parts.plain (free_tag (tag_of meant) (text_of id meant d) (λ tag at. (tag_facts meant is.proper tag at).1) parts.plain) parts.formed typed
               (subst (λ (f : Form). option_map (with_tag (own_tag meant)) (form_spelled f id offset (text_of id meant d) d) ≡ Some meant) is.of_form (text_back d sound meant id is.range is.proper offset)) short);
           number = is.number;
           own = λ os same f formed_too own.

@@ -1,5 +1,5 @@
 -- What a text stands for under a target fits the dictionary.
-use Rattle.std.proofs.Common.{◌≡◌, ℕ, ℤ, true, false, not, ◌&&◌, ◌||◌, nat_le, length, List, [], ◌∷◌, Option, Some, None, is_some, Result, Ok, Err, IfSome, refl, subst, option_and_then, option_map, unwrap_or}
+use Rattle.std.proofs.Common.{◌≡◌, ℕ, ℤ, true, false, not, ◌&&◌, ◌||◌, nat_le, length, List, [], ◌∷◌, Option, Some, None, Result, Ok, Err, IfSome, refl, subst, option_and_then, option_map, unwrap_or}
 use Rattle.std.specs.List.{slice_split}
 use Rattle.std.specs.Option.{option_map_or}
 use Rattle.std.specs.Result.{result_ok}
@@ -27,7 +27,7 @@ use Rattle.avp_forms.specs.Requests.{pair_written}
 use Rattle.avp_forms.specs.Targets.{has_tag, tagged, tagged_by, tagged_of, target_of, untagged}
 use Rattle.avp_forms.specs.Texts.{form_spelled, unless_long, value_spelled}
 use Rattle.avp_forms.specs.Values.{max_tag, octets_of, value_of, with_tag}
-use Rattle.avp_forms.specs.Written.{as_pair_value, has_typed_values, is_read_by_type, value_written}
+use Rattle.avp_forms.specs.Written.{as_pair_value, bars_text, has_typed_values, is_read_by_type, value_written}
 use Rattle.avp_forms.specs.declared.profiles.Profile.{Profile}
 use Rattle.avp_forms.specs.declared.profiles.Profile.TheVariants.{Plain, Wider}
 use Rattle.avp_forms.specs.declared.targets.Target.{Target}
@@ -95,7 +95,7 @@ module _ (d : Dictionary) (sound : IsSound d) where
       let n = target.named in
       let P : Result Value ValueFault → Type 0 = λ r. r ≡ Ok value → is_clean_pair d (pair_with n value) ≡ true in
       cond_both (is_barred n d) _ _ P (λ barred is. absurd (cc)) (λ free.
-      cond_both (is_some target.tag && is_hexadecimal text) _ _ P (λ tagged_octets is. absurd (cc)) (λ plain.
+      cond_both (bars_text target.tag text) _ _ P (λ tagged_octets is. absurd (cc)) (λ plain.
       cond_both (is_read_by_type target text d) _ _ P (λ by_type is. spelled_clean d n text value known is) (λ by_form is.
       let alone = (or_parts (is_container n.id) (n.raw && is_hidden n.id d) free).0 in
       let other = (or_parts n.raw (has_typed_values n.id d) (or_parts (n.raw || has_typed_values n.id d) (is_hexadecimal text) by_form).0).1 in

@@ -7,11 +7,12 @@ use Rattle.avp_dict.specs.Dictionary.{Dictionary}
 use Rattle.avp_dict.specs.Names.{named}
 use Rattle.avp_dict.specs.RefusedPlaces.{IsOutOfMemoryAt, IsRefusedAt, is_before_filled}
 use Rattle.avp_dict.specs.Requests.{pair_assigned, pair_named, pair_with, refusal_named, request_by, request_spelled}
+use Rattle.avp_dict.specs.Spellings as typed
 use Rattle.avp_dict.specs.declared.request.faults.LineKind.{LineKind}
 use Rattle.avp_dict.specs.declared.request.faults.LineKind.TheVariants.{Memory}
 use Rattle.avp_dict.specs.declared.value.faults.ValueFault.{ValueFault}
 use Rattle.avp_forms.specs.Targets.{target_of}
-use Rattle.avp_forms.specs.Written.{value_written}
+use Rattle.avp_forms.specs.Written.{takes_memory, value_written}
 use Rattle.avp_forms.specs.declared.profiles.Profile.{Profile}
 use Rattle.avp_forms.specs.declared.profiles.Profile.TheVariants.{Plain, Wider}
 use Rattle.avp_forms.specs.declared.targets.Target.{Target}
@@ -60,12 +61,15 @@ IsRefusedOnce profile time_zone dictionary text =
     → IsFirstRefused profile time_zone dictionary text other also
     → (place ≡ also) × (kind ≡ other)
 
--- memory ran out at this place of a text, at a pair before which all could go on as a request
+-- memory ran out at this place of a text, at a pair before which all could go on as a request, and whose value takes
+-- memory where it is not read yet
 abbrev pub IsOutOfMemoryIn : Profile → Option ℤ → Dictionary → List ℕ → ℕ → Type 0
 IsOutOfMemoryIn Plain time_zone dictionary text place =
     IsOutOfMemoryAt (λ name. named name dictionary)
     (λ target value. pair_named dictionary value target)
-    (λ target value. refusal_named dictionary value target) text place
+    (λ target value. refusal_named dictionary value target)
+    (λ target value. typed.takes_memory target value dictionary) text place
 IsOutOfMemoryIn Wider time_zone dictionary text place =
     IsOutOfMemoryAt (target_of Wider dictionary) (pair_written time_zone dictionary)
-    (refusal_written time_zone dictionary) text place
+    (refusal_written time_zone dictionary)
+    (λ target value. takes_memory Wider target value time_zone dictionary) text place

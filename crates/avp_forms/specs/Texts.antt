@@ -1,5 +1,5 @@
 -- The texts that stand for values, and the texts that are printed.
-use Rattle.std.specs.Prelude.{ℕ, ℤ, nat_le, if◌then◌else◌, List, decimal, length, Option, Some, None, Result, Ok, Err}
+use Rattle.std.specs.Prelude.{ℕ, ℤ, Bool, true, false, nat_le, if◌then◌else◌, List, decimal, length, Option, Some, None, Result, Ok, Err}
 use Rattle.std.specs.Option.{option_and_then, option_map, option_map_or, option_or, unwrap_or}
 use Rattle.avp_lists.specs.declared.pairs.AttrId.{AttrId}
 use Rattle.avp_dict.specs.Dictionary.{Dictionary, number_named, tagged_name_numbered}
@@ -65,6 +65,14 @@ value_spelled id tag offset text dictionary =
     unless_long (greatest_length id dictionary)
     (option_map (with_tag tag)
     (option_and_then (λ form. form_spelled form id offset text dictionary) (form_of id dictionary)))
+
+abbrev pub is_text_form : Form → Bool
+is_text_form forms.TaggedString = true
+is_text_form form = false
+
+-- the attribute's values are texts with a tag: memory is taken for these alone when texts are read
+abbrev pub keeps_text : AttrId → Dictionary → Bool
+keeps_text id dictionary = option_map_or is_text_form (form_of id dictionary) false
 
 -- ---- printed
 

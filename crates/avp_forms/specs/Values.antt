@@ -1,5 +1,5 @@
 -- What the octets of a form mean, and the octets of a value.
-use Rattle.std.specs.Prelude.{ℕ, ◌-◌, Bool, true, not, ◌&&◌, ◌==◌, nat_le, if◌then◌else◌, List, [], ◌∷◌, ◌++◌, bytes_eq, drop, length, replicate, slice_index, Option, Some, None}
+use Rattle.std.specs.Prelude.{ℕ, ◌-◌, Bool, true, false, not, ◌&&◌, ◌==◌, nat_le, if◌then◌else◌, List, [], ◌∷◌, ◌++◌, bytes_eq, drop, length, replicate, slice_index, Option, Some, None}
 use Rattle.std.specs.Int.{to_be_bytes, w32}
 use Rattle.std.specs.Int.Digits.{number_from_digits}
 use Rattle.avp_lists.specs.declared.pairs.Value.{Value}
@@ -88,6 +88,11 @@ unfoldable pub meaning_of_value : Form → Value → Option FormValue
 meaning_of_value form (values.Bytes os) = meaning form os
 meaning_of_value forms.Date (values.Int n) = if nat_le n greatest_number then Some (Date n) else None
 meaning_of_value form value = None
+
+-- a text with a tag: the one value whose octets are kept in memory of their own
+abbrev pub is_tagged_text : FormValue → Bool
+is_tagged_text (TaggedText tag os) = true
+is_tagged_text value = false
 
 -- ---- the octets of a value
 

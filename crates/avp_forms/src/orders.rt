@@ -1,6 +1,6 @@
 //! How octets compare by what they mean.
 
-ghost use Rattle.std.specs.Prelude.{◌≡◌, ◌≢◌, IfOk};
+ghost use Rattle.std.specs.Prelude.{◌≡◌, ◌≢◌, is_some, true, IfOk, OnErr};
 ghost use Rattle.avp_forms.specs.Comparisons.{compared};
 ghost use Rattle.avp_forms.specs.Orders.{order_by_meaning, other_octets};
 ghost use Rattle.avp_forms.specs.Values.{meaning, tagged_text_meant};
@@ -112,7 +112,8 @@ pub fn other_octets(
     form: Form,
     text: &[u8],
 ) -> Result<Option<(Form, Octets)>, AllocError>
-    ensures { IfOk result (λ x. x ≡ other_octets form text.now) }
+    ensures read { IfOk result (λ x. x ≡ other_octets form text.now) }
+    ensures memory { OnErr result (is_some (other_octets form text.now) ≡ true) }
 {
     match form {
         Form::Ipv6Address => match ipv6_prefix_spelled(text) {

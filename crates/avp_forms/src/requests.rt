@@ -28,6 +28,7 @@ impl PairReader for WiderReader<'_> {
 
     ghost use Rattle.avp_forms.specs.Requests.{pair_written, refusal_written};
     ghost use Rattle.avp_forms.specs.Targets.{target_of};
+    ghost use Rattle.avp_forms.specs.Written.{takes_memory};
     ghost use Rattle.avp_forms.specs.declared.profiles.Profile.TheVariants.{Wider};
 
     ghost target_of = { λ reader name. target_of Wider reader.dictionary.now name };
@@ -37,6 +38,9 @@ impl PairReader for WiderReader<'_> {
 
     ghost refusal_of = { λ reader target text.
         refusal_written reader.zone reader.dictionary.now target text };
+
+    ghost takes_memory = { λ reader target text.
+        takes_memory Wider target text reader.zone reader.dictionary.now };
 
     fn target(&self, name: &[u8]) -> Option<Target> {
         target_of(self.dictionary, Profile::Wider, name)

@@ -1,15 +1,16 @@
 //! Values of forms: from octets and to octets.
 
-ghost use Rattle.std.specs.Prelude.{◌≡◌, ◌≤◌, ◌∷◌, IfOk, decimal, length};
-ghost use Rattle.std.specs.Option.{option_map, unwrap_or};
+ghost use Rattle.std.specs.Prelude.{◌≡◌, ◌≤◌, ◌∷◌, false, true, IfErr, IfOk, OnErr, decimal, length};
+ghost use Rattle.std.specs.Option.{option_map, option_map_or, unwrap_or};
 ghost use Rattle.avp_lists.specs.Meets.{Meets};
 ghost use Rattle.avp_dict.specs.Dictionary.{tagged_name_numbered};
+ghost use Rattle.avp_dict.specs.Octets.{keeps_octets};
 ghost use Rattle.avp_dict.specs.Outcomes.{is_memory_value};
 ghost use Rattle.avp_dict.specs.Printing.{hexadecimal};
 ghost use Rattle.avp_forms.specs.Comparisons.{compared};
 ghost use Rattle.avp_forms.specs.Prefixes.{ipv4_prefix_spelled, ipv6_prefix_spelled};
-ghost use Rattle.avp_forms.specs.Texts.{form_spelled, ipv4_prefix_value, ipv6_prefix_value, printed_octets, printed_text, tagged_number_spelled, text_of, untagged_number, value_spelled};
-ghost use Rattle.avp_forms.specs.Values.{date_of, ipv4_prefix_meant, ipv6_prefix_meant, is_proper, max_tag, meaning, meaning_of_value, octets_of, of_length, padded, tag_of, tagged_number_meant, tagged_text_meant, value_of, with_tag};
+ghost use Rattle.avp_forms.specs.Texts.{form_spelled, ipv4_prefix_value, ipv6_prefix_value, is_text_form, keeps_text, printed_octets, printed_text, tagged_number_spelled, text_of, untagged_number, value_spelled};
+ghost use Rattle.avp_forms.specs.Values.{date_of, ipv4_prefix_meant, ipv6_prefix_meant, is_proper, is_tagged_text, max_tag, meaning, meaning_of_value, octets_of, of_length, padded, tag_of, tagged_number_meant, tagged_text_meant, value_of, with_tag};
 ghost use Rattle.avp_forms.specs.declared.values.FormValue.TheVariants.{InterfaceId, Ipv6Address};
 
 use crate::dates::{date_spelled, date_text};
@@ -129,7 +130,8 @@ pub(crate) fn tagged_number_meant(octets: &[u8]) -> Option<FormValue>
 }
 
 fn tagged_text_meant(alloc: Global, octets: &[u8]) -> Result<FormValue, AllocError>
-    ensures { IfOk result (λ value. value ≡ tagged_text_meant octets.now) }
+    ensures read { IfOk result (λ value. value ≡ tagged_text_meant octets.now) }
+    ensures memory { OnErr result (is_tagged_text (tagged_text_meant octets.now) ≡ true) }
 {
     match octets {
         [tag, text @ ..] if *tag <= MAX_TAG => {
@@ -184,7 +186,9 @@ fn form_spelled(
     zone: Option<i16>,
     text: &[u8],
 ) -> Result<Option<FormValue>, AllocError>
-    ensures { IfOk result (λ value. value ≡ form_spelled form id zone text.now dictionary.now) }
+    ensures read { IfOk result (λ value.
+        value ≡ form_spelled form id zone text.now dictionary.now) }
+    ensures memory { OnErr result (is_text_form form ≡ true) }
 {
     match form {
         Form::AsTyped => Ok(None),
@@ -208,7 +212,10 @@ pub(crate) fn value_spelled(
     zone: Option<i16>,
     text: &[u8],
 ) -> Result<FormValue, ValueFault>
-    ensures { Meets is_memory_value result (value_spelled id tag zone text.now dictionary.now) }
+    ensures answers { Meets is_memory_value result
+        (value_spelled id tag zone text.now dictionary.now) }
+    ensures memory { IfErr result (λ fault. fault ≡ ValueFault.Memory
+        → keeps_text id dictionary.now ≡ true) }
 {
     let form = dictionary.form(id).ok_or(ValueFault::NotValue)?;
     let value = form_spelled(alloc, dictionary, form, id, zone, text)?;
@@ -305,7 +312,9 @@ impl FormValue {
         form: Form,
         octets: &[u8],
     ) -> Result<Option<FormValue>, AllocError>
-        ensures { IfOk result (λ value. value ≡ meaning form octets.now) }
+        ensures read { IfOk result (λ value. value ≡ meaning form octets.now) }
+        ensures memory { OnErr result
+            (option_map_or is_tagged_text (meaning form octets.now) false ≡ true) }
     {
         match form {
             Form::AsTyped => Ok(None),
@@ -326,7 +335,9 @@ impl FormValue {
         form: Form,
         value: &Value,
     ) -> Result<Option<FormValue>, AllocError>
-        ensures { IfOk result (λ meant. meant ≡ meaning_of_value form value.now) }
+        ensures read { IfOk result (λ meant. meant ≡ meaning_of_value form value.now) }
+        ensures memory { OnErr result
+            (option_map_or is_tagged_text (meaning_of_value form value.now) false ≡ true) }
     {
         match (form, value) {
             (form, Value::Bytes(octets)) => FormValue::of_octets(alloc, form, octets.as_slice()),
@@ -361,7 +372,8 @@ impl FormValue {
     /// The value of a pair.
     #[tactic(auto, unfolding(crate::specs::Values::value_of))]
     pub fn to_value(&self, alloc: Global) -> Result<Value, AllocError>
-        ensures { IfOk result (λ value. value ≡ value_of self.now) }
+        ensures value { IfOk result (λ value. value ≡ value_of self.now) }
+        ensures memory { OnErr result (keeps_octets (value_of self.now) ≡ true) }
     {
         match self {
             FormValue::Date(seconds) => Ok(Value::Int(u64::from(*seconds))),
@@ -443,7 +455,12 @@ impl FormValue {
         text: &[u8],
     ) -> Result<FormValue, ValueFault>
         requires { tag ≤ MAX_TAG }
-        ensures { Meets is_memory_value result (value_spelled id tag zone text.now dictionary.now) }
+        ensures answers { Meets is_memory_value result
+            (value_spelled id tag zone text.now dictionary.now) }
+
+        // So want of memory hides no other refusal where no text is kept.
+        ensures memory { IfErr result (λ fault. fault ≡ ValueFault.Memory
+            → keeps_text id dictionary.now ≡ true) }
     {
         value_spelled(alloc, dictionary, id, tag, zone, text)
     }

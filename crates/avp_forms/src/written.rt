@@ -1,18 +1,18 @@
 //! Values of texts under a target, and texts of values, in a profile.
 
-ghost use Rattle.std.specs.Prelude.{◌≡◌, ◌||◌, Err, Ok, IfOk, IsTrue, is_some, true};
+ghost use Rattle.std.specs.Prelude.{◌≡◌, ◌||◌, Err, Ok, IfErr, IfOk, IsTrue, true};
 ghost use Rattle.std.specs.Option.{option_map_or};
 ghost use Rattle.avp_lists.specs.Meets.{Meets};
 ghost use Rattle.avp_dict.specs.Limits.{fits};
 ghost use Rattle.avp_dict.specs.Outcomes.{is_memory_value};
 ghost use Rattle.avp_dict.specs.Words.{is_hexadecimal};
 ghost use Rattle.avp_forms.specs.Texts.{value_spelled};
-ghost use Rattle.avp_forms.specs.Written.{as_pair_value, has_typed_values, is_read_by_type, meant_value, text_put, typed_text_put, value_written};
+ghost use Rattle.avp_forms.specs.Written.{as_pair_value, bars_text, form_takes_memory, has_typed_values, is_read_by_type, meant_value, takes_memory, text_put, typed_text_put, value_written};
 ghost use Rattle.avp_forms.specs.declared.profiles.Profile.TheVariants.{Wider};
 
 use crate::profiles::Profile;
 use crate::targets::Target;
-use crate::values::{FormValue, value_spelled};
+use crate::values::{FormValue, MAX_TAG, value_spelled};
 use avp_dict::{Dictionary, Form, ValueFault};
 use avp_lists::{AttrId, Value};
 use std::alloc::{AllocError, Global};
@@ -39,6 +39,15 @@ fn is_read_by_type(dictionary: &Dictionary, target: Target, text: &[u8]) -> bool
     target.named.raw || has_typed_values(dictionary, target.named.id) || is_hexadecimal(text)
 }
 
+fn bars_text(tag: Option<u8>, text: &[u8]) -> bool
+    ensures { result ≡ bars_text tag text.now }
+{
+    match tag {
+        Some(tag) => tag > MAX_TAG || is_hexadecimal(text),
+        None => false,
+    }
+}
+
 // The pair's value of a text that stands for a value of the attribute's form.
 fn form_value(
     alloc: Global,
@@ -48,15 +57,17 @@ fn form_value(
     zone: Option<i16>,
     text: &[u8],
 ) -> Result<Value, ValueFault>
-    ensures { Meets is_memory_value result
+    ensures answers { Meets is_memory_value result
         (as_pair_value (value_spelled id tag zone text.now dictionary.now)) }
+    ensures memory { IfErr result (λ fault. fault ≡ ValueFault.Memory
+        → form_takes_memory id tag zone text.now dictionary.now ≡ true) }
 {
     let value = value_spelled(alloc, dictionary, id, tag, zone, text)?;
     Ok(value.to_value(alloc)?)
 }
 
 // The same in the wider profile.
-#[tactic(auto, unfolding(crate::specs::Written::value_written))]
+#[tactic(auto, unfolding(crate::specs::Written::value_written, crate::specs::Written::takes_memory))]
 fn wider_value(
     alloc: Global,
     dictionary: &Dictionary,
@@ -64,13 +75,15 @@ fn wider_value(
     zone: Option<i16>,
     text: &[u8],
 ) -> Result<Value, ValueFault>
-    ensures { Meets is_memory_value result
+    ensures answers { Meets is_memory_value result
         (value_written Wider target text.now zone dictionary.now) }
+    ensures memory { IfErr result (λ fault. fault ≡ ValueFault.Memory
+        → takes_memory Wider target text.now zone dictionary.now ≡ true) }
 {
     if dictionary.is_barred(target.named) {
         return Err(ValueFault::NotWritable);
     }
-    if target.tag.is_some() && is_hexadecimal(text) {
+    if bars_text(target.tag, text) {
         return Err(ValueFault::NotValue);
     }
     if is_read_by_type(dictionary, target, text) {
@@ -85,6 +98,7 @@ fn wider_value(
 /// an attribute's values stand for no more than their type says, and where a text begins with `0x`, it is read as
 /// [`Dictionary::value_of_text`] does, so what [`printed_octets`](crate::printed_octets) prints for octets without a
 /// meaning is those octets again; but octets have their tag in them, so under a target with a tag they are no value.
+/// Under a tag above [`MAX_TAG`] no text is one.
 /// `zone` is as [`FormValue::of_text`] has it.
 ///
 /// ```rust
@@ -96,7 +110,7 @@ fn wider_value(
 /// let octets = Octets::from_slice(alloc, b"\x0240")?;
 /// assert!(rt; value == Value::Bytes(octets));
 /// ```
-#[tactic(auto, unfolding(crate::specs::Written::value_written))]
+#[tactic(auto, unfolding(crate::specs::Written::value_written, crate::specs::Written::takes_memory))]
 #[inline]
 pub fn value_written(
     alloc: Global,
@@ -110,6 +124,10 @@ pub fn value_written(
         (value_written profile target text.now zone dictionary.now) }
     ensures only { IfOk result (λ value. (other : Value)
         → value_written profile target text.now zone dictionary.now ≡ Ok other → other ≡ value) }
+
+    // So want of memory hides no other refusal where no octets are kept.
+    ensures memory { IfErr result (λ fault. fault ≡ ValueFault.Memory
+        → takes_memory profile target text.now zone dictionary.now ≡ true) }
 {
     match profile {
         Profile::Plain => dictionary.value_of_text(alloc, target.named, text),

@@ -1,5 +1,5 @@
 -- What readers have read of lines, and what is left of them.
-use Rattle.std.specs.Prelude.{◌≡◌, ◌⊎◌, ⊤, ℕ, ◌+◌, ◌<◌, ◌≤◌, true, false, List, [], ◌∷◌, ◌++◌, Option, Some, None, drop, length}
+use Rattle.std.specs.Prelude.{◌≡◌, ◌⊎◌, ⊤, ℕ, Bool, ◌+◌, ◌<◌, ◌≤◌, true, false, List, [], ◌∷◌, ◌++◌, Option, Some, None, drop, length}
 use Rattle.std.specs.List.{before_first, list_all}
 use Rattle.std.specs.Option.{option_and_then}
 use Rattle.avp_lists.specs.States.{max_pairs}
@@ -161,10 +161,11 @@ module _ {T : Type 0} (target_of : List ℕ → Option T) (pair_of : T → List 
     IsRefusedLine earlier line kind left =
         IsStoppedLine (λ n. IsRefusedFor target_of pair_of refusal_of n kind) earlier line left
 
-    abbrev pub IsOutPair : ℕ → List ℕ → ℕ → Type 0
-    IsOutPair count line left =
-        IsStoppedPair (IsOutOfMemoryFor target_of pair_of refusal_of) count line left
+    module _ (takes_memory : T → List ℕ → Bool) where
+      abbrev pub IsOutPair : ℕ → List ℕ → ℕ → Type 0
+      IsOutPair count line left =
+          IsStoppedPair (IsOutOfMemoryFor target_of pair_of refusal_of takes_memory) count line left
 
-    abbrev pub IsOutLine : List Pair → List ℕ → ℕ → Type 0
-    IsOutLine earlier line left =
-        IsStoppedLine (IsOutOfMemoryFor target_of pair_of refusal_of) earlier line left
+      abbrev pub IsOutLine : List Pair → List ℕ → ℕ → Type 0
+      IsOutLine earlier line left =
+          IsStoppedLine (IsOutOfMemoryFor target_of pair_of refusal_of takes_memory) earlier line left

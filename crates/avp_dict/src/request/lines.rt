@@ -10,11 +10,12 @@ ghost use Rattle.avp_dict.specs.Limits.{fits};
 ghost use Rattle.avp_dict.specs.LineNumbers.{line_after};
 ghost use Rattle.avp_dict.specs.Lines.{IsEnd, is_line_end, texts_of};
 ghost use Rattle.avp_dict.specs.Outcomes.{is_memory_line};
-ghost use Rattle.avp_dict.specs.RefusedPlaces.{IsOutOfMemoryAt, IsRefusedAfter, IsRefusedAt, is_before_filled};
+ghost use Rattle.avp_dict.specs.RefusedPlaces.{IsOutOfMemoryAt, IsRefusedAfter, IsRefusedAt, is_before_filled, takes_for_token};
 ghost use Rattle.avp_dict.specs.RequestLines.{Comma, is_blank_line, is_idle_line, pairs_of, tokens_at, value_text, without_front};
 ghost use Rattle.avp_dict.specs.Names.{named};
 ghost use Rattle.avp_dict.specs.Requests.{pair_assigned, pair_named, refusal_named, request_by, request_spelled};
 ghost use Rattle.avp_dict.specs.Sent.{is_clean};
+ghost use Rattle.avp_dict.specs.Spellings.{takes_memory};
 ghost use Rattle.avp_dict.specs.declared.value.faults.ValueFault.TheVariants.{NotWritable};
 ghost use Rattle.avp_dict.specs.internal.LineEnds.{IsCountKind, IsIdleRead, IsLexed, IsNoComma, IsOutLine, IsOutPair, IsPairRead, IsRefusedEnd, IsRefusedLine, IsRefusedPair, IsRefusedText, IsRefusedToken, refused_from};
 ghost use Rattle.avp_dict.specs.internal.LineReading.{IsNoRequest, after_pairs, assigned_after, pair_of_token, pairs_after, pairs_at};
@@ -164,6 +165,8 @@ fn pair_of_text<R: PairReader>(
     ensures pair { Finds is_memory_line result (R.pair_of reader.now target text.now) }
     ensures refused { IfErr result (λ kind.
         IsRefusedText (R.refusal_of reader.now target text.now) kind) }
+    ensures memory { IfErr result (λ kind. kind ≡ LineKind.Memory
+        → R.takes_memory reader.now target text.now ≡ true) }
 {
     match reader.pair(alloc, target, text) {
         Ok(pair) => Ok(pair),
@@ -188,6 +191,8 @@ fn pair_of_token<R: PairReader>(
     ensures writable { IfErr result (λ kind. kind ≡ LineKind.Memory
         → option_and_then (R.refusal_of reader.now target) (value_text (token_view token.entry))
         ≢ Some NotWritable) }
+    ensures memory { IfErr result (λ kind. kind ≡ LineKind.Memory
+        → takes_for_token (R.takes_memory reader.now target) (token_view token.entry) ≡ true) }
 {
     match token {
         Token::Run([b'=', ..]) => Err(LineKind::Unreadable),
@@ -237,7 +242,7 @@ fn read_pair<'a, R: PairReader>(
         count line.now refusal.kind refusal.left)) }
     ensures memory { IfErr result (λ refusal. refusal.kind ≡ LineKind.Memory → (count : ℕ)
         → IsOutPair (R.target_of reader.now) (R.pair_of reader.now) (R.refusal_of reader.now)
-        count line.now refusal.left) }
+        (R.takes_memory reader.now) count line.now refusal.left) }
 {
     let Token::Run(name) = first else {
         return Err(LineKind::Unreadable.at(line.len()));
@@ -279,7 +284,7 @@ fn read_line<R: PairReader>(
         pairs.old.items line.now refusal.kind refusal.left)) }
     ensures memory { IfErr result (λ refusal. refusal.kind ≡ LineKind.Memory
         → IsOutLine (R.target_of reader.now) (R.pair_of reader.now) (R.refusal_of reader.now)
-        pairs.old.items line.now refusal.left) }
+        (R.takes_memory reader.now) pairs.old.items line.now refusal.left) }
 {
     let mut rest = line;
     while let Some((first, after)) = next_token(Side::Name, rest) {
@@ -320,7 +325,7 @@ pub fn read_pairs<R: PairReader>(
         (R.pair_of reader.now) (R.refusal_of reader.now) text.now fault.kind fault.offset) }
     ensures memory { IfErr result (λ fault. fault.kind ≡ LineKind.Memory
         → IsOutOfMemoryAt (R.target_of reader.now) (R.pair_of reader.now)
-        (R.refusal_of reader.now) text.now fault.offset) }
+        (R.refusal_of reader.now) (R.takes_memory reader.now) text.now fault.offset) }
 {
     let mut pairs = Vec::new(alloc);
     let mut rest = without_idle_lines(text);
@@ -376,7 +381,8 @@ impl Dictionary {
         ensures memory { IfErr result (λ fault. fault.kind ≡ LineKind.Memory
             → IsOutOfMemoryAt (λ name. named name self.now)
             (λ target value. pair_named self.now value target)
-            (λ target value. refusal_named self.now value target) text.now fault.offset) }
+            (λ target value. refusal_named self.now value target)
+            (λ target value. takes_memory target value self.now) text.now fault.offset) }
     {
         // That each pair fits rests on what holds of the lines of every dictionary.
         self.sound();

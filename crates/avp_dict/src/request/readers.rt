@@ -11,12 +11,12 @@ pub trait PairReader {
     /// What a name stands for.
     type Target: Copy;
 
-    ghost use Rattle.std.specs.Prelude.{◌≡◌, ◌↔◌, ℕ, IfErr, IsTrue, List, None, Option, Some};
+    ghost use Rattle.std.specs.Prelude.{◌≡◌, ◌↔◌, ℕ, Bool, IfErr, IsTrue, List, None, Option, Some, true};
     ghost use Rattle.avp_lists.specs.Meets.{Finds, Unless};
     ghost use Rattle.avp_lists.specs.declared.pairs.Pair.{Pair};
     ghost use Rattle.avp_dict.specs.Outcomes.{is_memory_value};
     ghost use Rattle.avp_dict.specs.declared.value.faults.ValueFault.{ValueFault};
-    ghost use Rattle.avp_dict.specs.declared.value.faults.ValueFault.TheVariants.{NotWritable};
+    ghost use Rattle.avp_dict.specs.declared.value.faults.ValueFault.TheVariants.{Memory, NotWritable};
 
     /// What names stand for.
     ghost target_of: { Self → List ℕ → Option Self.Target };
@@ -26,6 +26,9 @@ pub trait PairReader {
 
     /// What texts are refused for that have no pair.
     ghost refusal_of: { Self → Self.Target → List ℕ → Option ValueFault };
+
+    /// Whether memory is taken for texts.
+    ghost takes_memory: { Self → Self.Target → List ℕ → Bool };
 
     /// What a name stands for.
     fn target(&self, name: &[u8]) -> Option<Self::Target>
@@ -42,7 +45,9 @@ pub trait PairReader {
     fn pair(&self, alloc: Global, target: Self::Target, text: &[u8]) -> Result<Pair, ValueFault>
         ensures pair { Finds is_memory_value result (pair_of self.now target text.now) }
         ensures refusal { IfErr result (λ fault. Unless (is_memory_value fault)
-            (refusal_of self.now target text.now ≡ Some fault)) };
+            (refusal_of self.now target text.now ≡ Some fault)) }
+        ensures memory { IfErr result (λ fault. fault ≡ Memory
+            → takes_memory self.now target text.now ≡ true) };
 }
 
 impl PairReader for Dictionary {
@@ -50,12 +55,15 @@ impl PairReader for Dictionary {
 
     ghost use Rattle.avp_dict.specs.Names.{named};
     ghost use Rattle.avp_dict.specs.Requests.{pair_named, refusal_named};
+    ghost use Rattle.avp_dict.specs.Spellings.{takes_memory};
 
     ghost target_of = { λ dictionary name. named name dictionary };
 
     ghost pair_of = { λ dictionary target text. pair_named dictionary text target };
 
     ghost refusal_of = { λ dictionary target text. refusal_named dictionary text target };
+
+    ghost takes_memory = { λ dictionary target text. takes_memory target text dictionary };
 
     fn target(&self, name: &[u8]) -> Option<Named> {
         self.by_name(name)

@@ -106,10 +106,11 @@ returns-in_err-pair-clause-memory g c =
     let target_of = g.R.PairReader.target_of c.args.reader.now in
     let pair_of = g.R.PairReader.pair_of c.args.reader.now in
     let refusal_of = g.R.PairReader.refusal_of c.args.reader.now in
+    let takes_memory = g.R.PairReader.takes_memory c.args.reader.now in
     let p = err_from_is_err_and c.from_residual.result c.from_residual.ensures.1 in
     let here : 0 < length c.loop-first.rest.now = omega (arith, c.in-Some.ensures.shorter) in
     rw (p.1, p.2)
-    (λ out. pair_stopped_in target_of pair_of refusal_of (IsOutOfMemoryFor target_of pair_of refusal_of) c.args.pairs.now.items c.loop-first.pairs.items c.args.line.now c.loop-first.rest.now c.in_err-pair.field-0.0.left (c.loop-first.invariant.pairs here) c.loop-first.invariant.few
+    (λ out. pair_stopped_in target_of pair_of refusal_of (IsOutOfMemoryFor target_of pair_of refusal_of takes_memory) c.args.pairs.now.items c.loop-first.pairs.items c.args.line.now c.loop-first.rest.now c.in_err-pair.field-0.0.left (c.loop-first.invariant.pairs here) c.loop-first.invariant.few
     (c.in_err-pair.ensures.memory out (length c.loop-first.pairs.items)))
 
 pub returns-in-Err-clause-memory : goal.returns-in-Err-clause-memory
@@ -117,11 +118,12 @@ returns-in-Err-clause-memory g c =
     let target_of = g.R.PairReader.target_of c.args.reader.now in
     let pair_of = g.R.PairReader.pair_of c.args.reader.now in
     let refusal_of = g.R.PairReader.refusal_of c.args.reader.now in
+    let takes_memory = g.R.PairReader.takes_memory c.args.reader.now in
     let here : 0 < length c.loop-first.rest.now = omega (arith, c.in-Some.ensures.shorter) in
     let rest : List ℕ = c.loop-first.rest.now in
     rw (c.at.ensures.kind, c.at.ensures.left)
-    (λ out. pair_stopped_in target_of pair_of refusal_of (IsOutOfMemoryFor target_of pair_of refusal_of) c.args.pairs.now.items c.loop-first.pairs.items c.args.line.now rest (length rest) (c.loop-first.invariant.pairs here) c.loop-first.invariant.few
-    (pair_out target_of pair_of refusal_of c.loop-first.pairs.items rest c.in_ok-pair.after.now c.in_ok-pair.pair (length rest) (c.in-Err.ensures.room out) c.in_ok-pair.ensures.pair refl))
+    (λ out. pair_stopped_in target_of pair_of refusal_of (IsOutOfMemoryFor target_of pair_of refusal_of takes_memory) c.args.pairs.now.items c.loop-first.pairs.items c.args.line.now rest (length rest) (c.loop-first.invariant.pairs here) c.loop-first.invariant.few
+    (pair_out target_of pair_of refusal_of takes_memory c.loop-first.pairs.items rest c.in_ok-pair.after.now c.in_ok-pair.pair (length rest) (c.in-Err.ensures.room out) c.in_ok-pair.ensures.pair refl))
 
 pub returns-in_err-rest-clause-memory : goal.returns-in_err-rest-clause-memory
 returns-in_err-rest-clause-memory g c =

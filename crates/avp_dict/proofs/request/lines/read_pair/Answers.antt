@@ -131,5 +131,5 @@ returns-in-Err-clause-memory g c =
     let sign : IsLexed Name rest (Sign ∷ []) Value text = (rw c.in-Some-Sign-default.field-0-0-is at c.in-Some-Sign-default.ensures.lexed) refl in
     rw (c.at-in-Err.ensures.kind, c.at-in-Err.ensures.left, c.refused_from.ensures)
     (λ out. rw out
-    (value_out (g.R.PairReader.target_of c.args.reader.now) (g.R.PairReader.pair_of c.args.reader.now) (g.R.PairReader.refusal_of c.args.reader.now) line text (length text)
-    name c.in-Some.target value tokens (c.in-Err.ensures.text out) (c.in-Err.ensures.writable out) known c.in-Some-next_token.ensures.token (lexed_then Name Name Value line rest text (Run name ∷ []) (Sign ∷ []) lexed sign) refl))
+    (value_out (g.R.PairReader.target_of c.args.reader.now) (g.R.PairReader.pair_of c.args.reader.now) (g.R.PairReader.refusal_of c.args.reader.now) (g.R.PairReader.takes_memory c.args.reader.now) line text (length text)
+    name c.in-Some.target value tokens (c.in-Err.ensures.text out) (c.in-Err.ensures.writable out) (c.in-Err.ensures.memory out) known c.in-Some-next_token.ensures.token (lexed_then Name Name Value line rest text (Run name ∷ []) (Sign ∷ []) lexed sign) refl))

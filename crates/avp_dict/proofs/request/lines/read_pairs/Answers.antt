@@ -88,5 +88,5 @@ pub returns-in-Err-read_line-clause-memory : goal.returns-in-Err-read_line-claus
 returns-in-Err-read_line-clause-memory g c =
     let here : 0 < length c.loop-line.rest.now = omega (arith, c.in-Some.ensures.shorter) in
     rw c.in_text-in-Err-read_line.ensures.kind
-    (λ out. line_out_at (g.R.PairReader.target_of c.args.reader.now) (g.R.PairReader.pair_of c.args.reader.now) (g.R.PairReader.refusal_of c.args.reader.now) c.args.text.now c.loop-line.rest.now c.in-Some.line.now c.loop-line.pairs.items c.in-Err-read_line.refusal.left c.in_text-in-Err-read_line.result.offset
+    (λ out. line_out_at (g.R.PairReader.target_of c.args.reader.now) (g.R.PairReader.pair_of c.args.reader.now) (g.R.PairReader.refusal_of c.args.reader.now) (g.R.PairReader.takes_memory c.args.reader.now) c.args.text.now c.loop-line.rest.now c.in-Some.line.now c.loop-line.pairs.items c.in-Err-read_line.refusal.left c.in_text-in-Err-read_line.result.offset
     (c.in-Err-read_line.ensures.memory out) c.loop-line.invariant.packet here c.in-Some.ensures.line c.in_text-in-Err-read_line.ensures.blanks)
