@@ -1,10 +1,11 @@
 //! Names, texts and request lines of the wider profile, as a server reads and prints them.
 
-use avp_dict::{Dictionary, LineFault, LineKind};
+use avp_dict::{Dictionary, LineFault, LineKind, ValueFault};
 use avp_forms::{
-    Profile, printed_pair_name, printed_pair_text, profile_of, read_request, target_of, text_put,
+    Profile, Target, printed_pair_name, printed_pair_text, profile_of, read_request, target_of,
+    text_put, value_written,
 };
-use avp_lists::{AttrId, Pair, Value};
+use avp_lists::{AttrId, Octets, Pair, Value};
 use samples::read_dictionary;
 use std::alloc::Global;
 use std::process::Abort;
@@ -141,6 +142,36 @@ fn lines_are_refused(rt: HostRuntime) -> Result<(), Fail> {
     expect_refused(rt, alloc, d, plain, b"#\nTunnel-Type = VLAN", no_value);
     expect_refused(rt, alloc, d, wider, b"#\nTunnel-Type = Great", no_value);
     expect_refused(rt, alloc, d, wider, b"#\nTunnel-Type:1 = 0x01", no_value);
+    Ok(())
+}
+
+// The octets that a text is under `Tunnel-Type` beside a tag; none where it is no value.
+fn octets_beside(
+    alloc: Global,
+    dictionary: &Dictionary,
+    tag: u8,
+    text: &[u8],
+) -> Result<Option<Octets>, Fail> {
+    let named = dictionary.by_name(b"Tunnel-Type").ok_or("no name")?;
+    let target = Target {
+        named,
+        tag: Some(tag),
+    };
+    match value_written(alloc, dictionary, Profile::Wider, target, None, text) {
+        Ok(Value::Bytes(octets)) => Ok(Some(octets)),
+        Err(ValueFault::NotValue) => Ok(None),
+        _ => Err(Fail::new("another value, or refused for another reason")),
+    }
+}
+
+#[test]
+fn no_text_is_a_value_beside_a_tag_above_31(rt: HostRuntime) -> Result<(), Fail> {
+    let (rt, alloc) = (&rt, rt.alloc());
+    let dictionary = &dictionary(alloc)?;
+    let octets = octets_beside(alloc, dictionary, 31, b"VLAN")?.ok_or("no value")?;
+    assert_eq!(rt; octets.as_slice(), b"\x1f\0\0\x0d".as_slice());
+    assert!(rt; octets_beside(alloc, dictionary, 32, b"VLAN")?.is_none());
+    assert!(rt; octets_beside(alloc, dictionary, 200, b"13")?.is_none());
     Ok(())
 }
 
