@@ -4,6 +4,7 @@ pub mod Appending
 pub mod AttributeRows
 pub mod BarredNames
 pub mod CountedNames
+pub mod DigitPairs
 pub mod FaultPlaces
 pub mod FilledLines
 pub mod FirstPlaces

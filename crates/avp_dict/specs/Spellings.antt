@@ -1,5 +1,5 @@
 -- Which value a text stands for under a name.
-use Rattle.std.specs.Prelude.{ℕ, ◌+◌, pos, neg_ℤ, ℤ, Bool, true, false, not, ◌&&◌, ◌||◌, ◌==◌, nat_le, if◌then◌else◌, List, [], ◌∷◌, drop, length, slice_index, Option, Some, None, Result, Ok, Err}
+use Rattle.std.specs.Prelude.{ℕ, ◌+◌, pos, neg_ℤ, ℤ, Bool, false, not, ◌&&◌, ◌||◌, ◌==◌, nat_le, if◌then◌else◌, List, [], ◌∷◌, drop, length, slice_index, Option, Some, None, is_some, Result, Ok, Err}
 use Rattle.std.specs.Option.{option_and_then, option_map, option_map_or, option_or}
 use Rattle.std.specs.Result.{result_ok}
 use Rattle.std.specs.List.{slice_split}
@@ -19,7 +19,7 @@ use Rattle.avp_dict.specs.declared.value.faults.ValueFault.{ValueFault}
 use Rattle.avp_dict.specs.declared.value.faults.ValueFault.TheVariants.{NotWritable, NotValue, TooLong}
 use Rattle.avp_dict.specs.Letters.{is_dot}
 use Rattle.avp_dict.specs.Limits.{is_within}
-use Rattle.avp_dict.specs.Octets.{is_hidden, value_of_octets}
+use Rattle.avp_dict.specs.Octets.{is_hidden, keeps_octets, value_of_octets}
 use Rattle.avp_dict.specs.Sent.{is_container}
 use Rattle.avp_dict.specs.Values.{max_of}
 use Rattle.avp_dict.specs.Words.{digits, is_hexadecimal, number_of}
@@ -145,20 +145,10 @@ value_spelled name text dictionary =
 
 -- ---- memory
 
--- a type that keeps a text's octets: a string the text's own, and octets those of `0x` and digits, and the text's own
--- where the type word allows it
-abbrev pub keeps_text : Kind → Bool → List ℕ → Bool
-keeps_text kinds.Text takes_text text = true
-keeps_text kinds.Bytes takes_text text = takes_text || is_hexadecimal text
-keeps_text kind takes_text text = false
-
-abbrev pub is_kept_by : List ℕ → Typing → Bool
-is_kept_by text typing = keeps_text typing.kind typing.takes_text text
-
--- memory is taken for a text under a name: only where the name is writable, and for `0x` and digits under a name by
--- number, and else for a text whose octets the type keeps
+-- Whether memory is taken for a text under a name: only if the name is writable, and then for octets that are spelled
+-- under a name by number, and else for a value that keeps octets, its length aside.
 unfoldable pub takes_memory : Named → List ℕ → Dictionary → Bool
 takes_memory name text dictionary =
     not (is_barred name dictionary)
-    && (if name.raw then is_hexadecimal text
-    else option_map_or (is_kept_by text) (typing_of_id name.id dictionary.attributes) false)
+    && (if name.raw then is_some (octets_spelled text)
+    else option_map_or keeps_octets (spelled name text dictionary) false)

@@ -1,14 +1,18 @@
 //! Texts of values.
 
-ghost use Rattle.std.specs.Prelude.{◌≡◌, ◌+◌, ◌∷◌, [], false, true, IfErr, IfOk, OnErr, ℕ, Option, pos};
-ghost use Rattle.std.specs.Option.{option_and_then, option_map};
+ghost use Rattle.std.specs.Prelude.{◌≡◌, ◌+◌, ◌∷◌, [], false, true, IfErr, IfOk, OnErr, ℕ, None, Option, is_some, pos};
+ghost use Rattle.std.specs.List.{list_all};
+ghost use Rattle.std.specs.Option.{option_and_then, option_map, option_map_or};
+ghost use Rattle.std.specs.Result.{result_ok};
+ghost use Rattle.hex.specs.Hex.{decode_of, is_hex_digit};
 ghost use Rattle.avp_lists.specs.Meets.{Meets};
 ghost use Rattle.avp_dict.specs.AttributeNumbers.{greatest_signed};
+ghost use Rattle.avp_dict.specs.Octets.{keeps_octets};
 ghost use Rattle.avp_dict.specs.Outcomes.{is_memory_value};
 ghost use Rattle.avp_dict.specs.Sent.{is_container};
-ghost use Rattle.avp_dict.specs.Spellings.{address_spelled, bytes_spelled, decimal_octet, digit_pair, each_number, ether_spelled, is_barred, is_kept_by, keeps_text, negated, number_spelled, number_up_to, octets_spelled, signed_spelled, spelled, spelled_by, takes_memory, up_to, value_spelled};
+ghost use Rattle.avp_dict.specs.Spellings.{address_spelled, bytes_spelled, decimal_octet, digit_pair, each_number, ether_spelled, is_barred, negated, number_spelled, number_up_to, octets_spelled, signed_spelled, spelled, spelled_by, takes_memory, up_to, value_spelled};
 ghost use Rattle.avp_dict.specs.Values.{max_of};
-ghost use Rattle.avp_dict.specs.Words.{digits, is_hexadecimal};
+ghost use Rattle.avp_dict.specs.Words.{digits};
 ghost use Rattle.avp_dict.specs.internal.Numbers.{Reads};
 
 use crate::attribute_numbers::{VENDOR_SPECIFIC, is_extended_type};
@@ -22,14 +26,35 @@ use avp_lists::{AttrId, Octets, Value};
 use hex::FromHexError;
 use std::alloc::{AllocError, Global};
 
-// The octets that `0x` and hexadecimal digits stand for.
+fn is_hex_digit(octet: u8) -> bool
+    ensures { result ≡ is_hex_digit octet }
+{
+    matches!(octet, b'0'..=b'9' | b'a'..=b'f' | b'A'..=b'F')
+}
+
+fn are_hex_digits(text: &[u8]) -> bool
+    ensures { result ≡ list_all is_hex_digit text.now }
+{
+    text.iter().all(|octet| is_hex_digit(*octet))
+}
+
+// Whether a text is pairs of hexadecimal digits.
+#[tactic(auto, using(crate::proofs::DigitPairs::others_spell_none, crate::proofs::DigitPairs::pairs_spell))]
+fn are_digit_pairs(text: &[u8]) -> bool
+    ensures some { result ≡ true → is_some (result_ok (decode_of text.now)) ≡ true }
+    ensures none { result ≡ false → result_ok (decode_of text.now) ≡ None }
+{
+    text.len() % 2 == 0 && are_hex_digits(text)
+}
+
+// The octets that `0x` and hexadecimal digits stand for. Memory is taken only once there are such.
 #[tactic(auto, unfolding(crate::specs::Spellings::octets_spelled))]
 fn octets_spelled(alloc: Global, text: &[u8]) -> Result<Option<Octets>, AllocError>
     ensures read { IfOk result (λ octets. octets ≡ octets_spelled text.now) }
-    ensures memory { OnErr result (is_hexadecimal text.now ≡ true) }
+    ensures memory { OnErr result (is_some (octets_spelled text.now) ≡ true) }
 {
     match text {
-        [b'0', b'x', digits @ ..] => match hex::decode(alloc, digits) {
+        [b'0', b'x', digits @ ..] if are_digit_pairs(digits) => match hex::decode(alloc, digits) {
             Ok(octets) => Ok(Some(Octets::from_vec(octets))),
             Err(FromHexError::OutOfMemory) => Err(AllocError),
             Err(_) => Ok(None),
@@ -42,7 +67,7 @@ fn octets_spelled(alloc: Global, text: &[u8]) -> Result<Option<Octets>, AllocErr
 #[tactic(auto, unfolding(crate::specs::Spellings::bytes_spelled))]
 fn bytes_spelled(alloc: Global, takes_text: bool, text: &[u8]) -> Result<Option<Octets>, AllocError>
     ensures read { IfOk result (λ octets. octets ≡ bytes_spelled takes_text text.now) }
-    ensures memory { OnErr result (keeps_text Kind.Bytes takes_text text.now ≡ true) }
+    ensures memory { OnErr result (is_some (bytes_spelled takes_text text.now) ≡ true) }
 {
     match text {
         [b'0', b'x', ..] => octets_spelled(alloc, text),
@@ -200,6 +225,7 @@ impl Dictionary {
         Some(Value::Int(number))
     }
 
+    #[tactic(auto, using(crate::proofs::DigitPairs::bytes_kept))]
     fn spelled_by(
         &self,
         alloc: Global,
@@ -208,7 +234,8 @@ impl Dictionary {
         text: &[u8],
     ) -> Result<Option<Value>, AllocError>
         ensures read { IfOk result (λ value. value ≡ spelled_by id text.now self.now typing) }
-        ensures memory { OnErr result (is_kept_by text.now typing ≡ true) }
+        ensures memory { OnErr result
+            (option_map_or keeps_octets (spelled_by id text.now self.now typing) false ≡ true) }
     {
         match typing.kind {
             Kind::Text => Ok(Some(Value::Text(Octets::from_slice(alloc, text)?))),
@@ -272,7 +299,7 @@ impl Dictionary {
         ensures only { IfOk result (λ value. (other : Value) → value_spelled named text.now self.now
             ≡ Ok other → other ≡ value) }
 
-        // So want of memory hides no other refusal where no octets are kept.
+        // So want of memory hides no other refusal than that the value is too long.
         ensures memory { IfErr result (λ fault. fault ≡ ValueFault.Memory
             → takes_memory named text.now self.now ≡ true) }
     {
