@@ -11,12 +11,14 @@ from allocations.refusing import ALL_LATER, Refusals
 CASES = Path(__file__).parent.parent / "cases"
 DICTIONARY_END = """ATTRIBUTE Skipped 300.1 integer
 VENDOR Wide 10 format=4,0
+ATTRIBUTE Tunnel-Type 64 integer has_tag
+ATTRIBUTE Framed-IPv6-Prefix 97 ipv6prefix
 """
 ATTRIBUTES = "\x01\x06nemo\x19\x03a\x12\x02\x05"
 REQUEST = "User-Name = nemo, User-Password = secret, NAS-Port = 3, Test-Long = 0x01, Cisco-AVPair = x, Attr-4 = 0x01"
 NAMES = "User-Name user-password NAS-PORT Cisco-AVPair Test-Ext Attr-1 Attr-26.10.5 Attr-241.7 Nosuch".split()
 ANSWERS = """begin
-Counts { attributes: 18, values: 4, vendors: 2 } [Note { file: 0, line: 26 }]
+Counts { attributes: 20, values: 4, vendors: 2 } [Note { file: 0, line: 26 }]
 Some(Format { t: 1, l: 1 }) Some(Format { t: 4, l: 0 })
 fits true
 fits true
@@ -29,6 +31,21 @@ fits true
 18 [] 9
 bad 11
 reply true
+NotValue 11
+NotValue 8
+NotWritable 0
+NotWritable 0
+Ok(Int(3))
+Ok(Addr([192, 168, 1, 3]))
+Err(NotValue)
+Err(NotValue)
+Err(NotWritable)
+Int(3)
+Err(NotValue)
+Err(NotValue)
+Err(NotValue)
+Some(Date(60))
+None
 """
 
 

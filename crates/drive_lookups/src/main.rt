@@ -3,8 +3,9 @@
 //! request line for each pair, and then the names to look up.
 #![tactic(auto)]
 
-use avp_dict::{Dictionary, FileSet, NamedFile};
-use avp_lists::{Octets, Pair};
+use avp_dict::{Dictionary, FileSet, Form, NamedFile};
+use avp_forms::{FormValue, Profile, other_octets, target_of, value_written};
+use avp_lists::{AttrId, Octets, Pair};
 use avp_packet::{attributes, check_reply};
 use std::alloc::Global;
 use std::{env, io};
@@ -66,6 +67,71 @@ fn look_at_packets(rt: &HostRuntime, octets: &[u8]) -> io::Result<()> {
     println!(rt; "reply {}", check_reply(&REPLY, &AUTHENTICATOR, SECRET))
 }
 
+// What a request line is refused for, and where.
+fn look_at_line(rt: &HostRuntime, dictionary: &Dictionary, line: &[u8]) -> io::Result<()> {
+    match dictionary.read_request(rt.alloc(), line) {
+        Ok(pairs) => println!(rt; "{} pairs", pairs.len()),
+        Err(fault) => println!(rt; "{:?} {}", fault.kind, fault.offset),
+    }
+}
+
+// What a text is under a name.
+fn look_at_text(
+    rt: &HostRuntime,
+    dictionary: &Dictionary,
+    name: &[u8],
+    text: &[u8],
+) -> io::Result<()> {
+    match dictionary.by_name(name) {
+        None => println!(rt; "none"),
+        Some(named) => { println!(rt; "{:?}", dictionary.value_of_text(rt.alloc(), named, text)) }
+    }
+}
+
+// Values of which no octets are kept, and texts that are refused before any are.
+fn look_at_values(rt: &HostRuntime, dictionary: &Dictionary) -> io::Result<()> {
+    look_at_line(rt, dictionary, b"NAS-Port = three")?;
+    look_at_line(rt, dictionary, b"Class = 0xno")?;
+    look_at_line(rt, dictionary, b"Attr-26 = 0x00")?;
+    look_at_line(rt, dictionary, b"Attr-26 = 'x'")?;
+    look_at_text(rt, dictionary, b"NAS-Port", b"3")?;
+    look_at_text(rt, dictionary, b"Login-IP-Host", b"192.168.1.3")?;
+    look_at_text(rt, dictionary, b"Login-IP-Host", b"nemo")?;
+    look_at_text(rt, dictionary, b"Attr-14", b"192.168.1.3")?;
+    look_at_text(rt, dictionary, b"Attr-26", b"0x00")?;
+    let port = dictionary.value_of_bytes(rt.alloc(), AttrId::Plain(5), &[0, 0, 0, 3])?;
+    println!(rt; "{port:?}")
+}
+
+// What a text is under a name of the wider profile.
+fn look_at_target(
+    rt: &HostRuntime,
+    dictionary: &Dictionary,
+    name: &[u8],
+    text: &[u8],
+) -> io::Result<()> {
+    let wider = Profile::Wider;
+    match target_of(dictionary, wider, name) {
+        None => println!(rt; "none"),
+        Some(target) => {
+            let value = value_written(rt.alloc(), dictionary, wider, target, None, text);
+            println!(rt; "{value:?}")
+        }
+    }
+}
+
+// Values of forms of which no octets are kept.
+fn look_at_forms(rt: &HostRuntime, dictionary: &Dictionary) -> io::Result<()> {
+    let alloc = rt.alloc();
+    look_at_target(rt, dictionary, b"Tunnel-Type:1", b"nemo")?;
+    look_at_target(rt, dictionary, b"Tunnel-Type:1", b"0x01")?;
+    let prefix = FormValue::of_text(alloc, dictionary, AttrId::Plain(97), 0, None, b"nemo");
+    println!(rt; "{prefix:?}")?;
+    let date = FormValue::of_octets(alloc, Form::Date, &[0, 0, 0, 60])?;
+    println!(rt; "{date:?}")?;
+    println!(rt; "{:?}", other_octets(alloc, Form::Ipv6Address, b"nemo")?)
+}
+
 fn main(rt: HostRuntime) -> io::Result<()> {
     let words: Vec<String> = env::args(&rt)?.collect(rt.alloc())?;
     let [_, text, octets, request, names @ ..] = words.as_slice() else {
@@ -78,6 +144,8 @@ fn main(rt: HostRuntime) -> io::Result<()> {
     println!(rt; "begin")?;
     look_at_all(&rt, &dictionary, &pairs)?;
     look_at_packets(&rt, octets.as_bytes())?;
+    look_at_values(&rt, &dictionary)?;
+    look_at_forms(&rt, &dictionary)?;
     for name in names {
         look_up(&rt, &dictionary, name.as_bytes())?;
     }
