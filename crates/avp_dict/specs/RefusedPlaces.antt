@@ -81,8 +81,8 @@ abbrev pub first_text : List Token → Option (List ℕ)
 first_text [] = None
 first_text (token ∷ tokens) = value_text token
 
--- Whether memory is taken for the token of a value, by the texts for which it is: what is between quotes is written into
--- memory to be read.
+-- Whether memory is taken for the token of a value, by the texts for which it is: what is between quotes is written
+-- into memory to be read.
 abbrev pub takes_for_token : (List ℕ → Bool) → Token → Bool
 takes_for_token takes_memory (Run octets) = takes_memory octets
 takes_for_token takes_memory (Quoted mark octets) = true
@@ -179,8 +179,8 @@ module _ {T : Type 0} (target_of : List ℕ → Option T) (pair_of : T → List 
           → of_pair target_of pair_of name value ≡ Some pair → nat_lt count max_pairs ≡ true
           → IsOutOfMemoryFor count [] Name (Run name ∷ Sign ∷ value ∷ tokens)
 
-    -- Memory ran out after so many octets of a text, on a line of its packet. So it hides no other refusal than that the
-    -- value there is none or is too long, or that its pair is one too many: before it are lines and pairs that are
+    -- Memory ran out after so many octets of a text, on a line of its packet. So it hides no other refusal than that
+    -- the value there is none or is too long, or that its pair is one too many: before it are lines and pairs that are
     -- read.
     pub data IsOutOfMemoryAt (text : List ℕ) : ℕ → Type 0 where
       in_line : (offset : ℕ) (side : Side) (lines : List (List ℕ)) (before inner : List Token)

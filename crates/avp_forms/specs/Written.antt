@@ -37,8 +37,8 @@ abbrev pub as_pair_value : Result FormValue ValueFault → Result Value ValueFau
 as_pair_value (Ok value) = Ok (value_of value)
 as_pair_value (Err fault) = Err fault
 
--- no text is a value beside a tag above the greatest one, and none of octets beside any tag, since octets have their tag
--- in them
+-- no text is a value beside a tag above the greatest one, and none of octets beside any tag, since octets have their
+-- tag in them
 abbrev pub bars_text : Option ℕ → List ℕ → Bool
 bars_text None text = false
 bars_text (Some tag) text = nat_lt max_tag tag || is_hexadecimal text
@@ -61,10 +61,12 @@ abbrev pub is_kept : Result Value ValueFault → Bool
 is_kept (Ok value) = keeps_octets value
 is_kept (Err fault) = false
 
--- memory is taken for a text that is read by the attribute's form: for one with a tag, and for the octets of a value
+-- memory is taken for a text that is read by the attribute's form: for one that may have a tag, and for the octets of a
+-- value
 abbrev pub form_takes_memory : AttrId → ℕ → Option ℤ → List ℕ → Dictionary → Bool
 form_takes_memory id tag offset text dictionary =
-    keeps_text id dictionary || is_kept (as_pair_value (value_spelled id tag offset text dictionary))
+    keeps_text id dictionary
+    || is_kept (as_pair_value (value_spelled id tag offset text dictionary))
 
 -- Memory is taken for a text under a target. In the wider profile it is taken only where the name is writable and the
 -- tag does not bar the text, and then as the text is read, by the attribute's type or by its form.

@@ -168,4 +168,5 @@ module _ {T : Type 0} (target_of : List ℕ → Option T) (pair_of : T → List 
 
       abbrev pub IsOutLine : List Pair → List ℕ → ℕ → Type 0
       IsOutLine earlier line left =
-          IsStoppedLine (IsOutOfMemoryFor target_of pair_of refusal_of takes_memory) earlier line left
+          IsStoppedLine (IsOutOfMemoryFor target_of pair_of refusal_of takes_memory) earlier line
+          left
