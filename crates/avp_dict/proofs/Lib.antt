@@ -15,6 +15,7 @@ pub mod FormedTypings
 pub mod FoundPositions
 pub mod Gathering
 pub mod KeywordCases
+pub mod LaneRuns
 pub mod LastPlaces
 pub mod LaterNames
 pub mod LaterValues

@@ -1,13 +1,11 @@
 -- What each line is read as keeps to what holds of every dictionary.
-use Rattle.std.proofs.Common.{◌≡◌, ℕ, Bool, true, false, not, cond, ◌&&◌, ◌≤◌, nat_lt, nat_le, codes, List, [], ◌∷◌, ◌++◌, length, get_or, Option, Some, None, Result, Ok, Err, refl, sym, subst, arith, IfSome, drop, take, is_none}
+use Rattle.std.proofs.Common.{◌≡◌, ℕ, Bool, true, false, not, cond, ◌&&◌, ◌≤◌, nat_lt, nat_le, codes, List, [], ◌∷◌, ◌++◌, length, Option, Some, None, Result, Ok, Err, refl, sym, subst, arith, IfSome, drop, take, is_none}
 use Rattle.std.proofs.lemmas.Bool.{and_parts, cond_both, leb-true, not-false, not-true}
 use Rattle.std.proofs.lemmas.Grind.{common_steps}
 use Rattle.std.specs.List.{All, list_all, list_any, slice_split}
 use Rattle.std.proofs.lemmas.List.Elements.{All-nil, All-push}
 use Rattle.avp_lists.specs.declared.pairs.AttrId.{AttrId}
 use Rattle.avp_lists.specs.declared.pairs.AttrId.TheVariants as ids
-use Rattle.avp_lists.specs.Pairs.{id_eq}
-use Rattle.avp_lists.proofs.Equality.{id_eq-same}
 use Rattle.avp_dict.specs.declared.entries.AttributeLine.{AttributeLine}
 use Rattle.avp_dict.specs.declared.entries.Kind.{Kind}
 use Rattle.avp_dict.specs.declared.entries.Kind.TheVariants.{Text, Bytes}

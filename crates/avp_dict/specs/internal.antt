@@ -2,6 +2,7 @@ pub mod Agreeing
 pub mod AttributeRows
 pub mod Contents
 pub mod Entries
+pub mod Lanes
 pub mod LastFormats
 pub mod LineEnds
 pub mod LineReading

@@ -5,6 +5,7 @@ pub mod blocks;
 pub mod context;
 pub mod files;
 pub mod keywords;
+pub mod lanes;
 pub mod lines;
 pub mod meanings;
 pub mod numbers;

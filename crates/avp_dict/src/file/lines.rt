@@ -4,6 +4,7 @@ ghost use Rattle.std.specs.Prelude.{◌≡◌, ◌<◌, length, IfSome};
 ghost use Rattle.std.specs.Option.{option_and_then, option_copied};
 ghost use Rattle.std.specs.List.{before_first, after_first, position};
 ghost use Rattle.avp_dict.specs.Lines.{file_named, included_by, is_include, is_line_end, octets_at};
+ghost use Rattle.avp_dict.specs.internal.LineWords.{from_line_end};
 ghost use Rattle.avp_dict.specs.internal.Views.{views};
 
 use crate::file::files::{NamedFile, last_component};
@@ -32,6 +33,40 @@ fn line_end(text: &[u8]) -> Option<usize>
     ensures { result ≡ position is_line_end text.now }
 {
     memchr(b'\n', text)
+}
+
+pub(crate) fn is_line_end(octet: u8) -> bool
+    ensures { result ≡ is_line_end octet }
+{
+    octet == b'\n'
+}
+
+/// A text from its first line end on. Most that follow the words of a line begin with it.
+#[tactic(auto, using(crate::proofs::LineWords::end_here))]
+pub(crate) fn from_line_end(text: &[u8]) -> &[u8]
+    ensures { result.now ≡ from_line_end text.now }
+{
+    match text {
+        [octet, ..] if is_line_end(*octet) => text,
+        _ => match line_end(text) {
+            Some(end) => &text[end..],
+            None => &text[text.len()..],
+        },
+    }
+}
+
+/// The first line of a text, and what follows it, where the text from the line's end on is given.
+#[tactic(auto, using(crate::proofs::LineWords::line_before_end, crate::proofs::LineWords::rest_after_end))]
+pub(crate) fn split_at_end<'a>(text: &'a [u8], end: &'a [u8]) -> (&'a [u8], &'a [u8])
+    requires { end.now ≡ from_line_end text.now }
+    ensures line { result.0.now ≡ before_first is_line_end text.now }
+    ensures rest { result.1.now ≡ after_first is_line_end text.now }
+{
+    let (line, _) = text.split_at(text.len() - end.len());
+    match end {
+        [_, after @ ..] => (line, after),
+        [] => (line, end),
+    }
 }
 
 /// The first line of a text, and what follows it.

@@ -17,7 +17,7 @@ ghost use Rattle.avp_dict.specs.internal.Views.{views};
 use crate::faults::{DictKind, RefusedLine, RefusedWord};
 use crate::file::context::{Context, innermost};
 use crate::file::files::NamedFile;
-use crate::file::lines::{Line, MAX_LEVELS, octets_at, place_included, split_line};
+use crate::file::lines::{Line, MAX_LEVELS, octets_at, place_included};
 use crate::file::meanings::{Meaning, Reading};
 use crate::file::readings::read_words;
 use crate::file::words::replace_words;
@@ -163,8 +163,7 @@ impl<'a> ReadLines<'a> {
         let mut number = 1;
         let mut words = Vec::new(alloc);
         while !rest.is_empty() {
-            let (text, after) = split_line(rest);
-            replace_words(&mut words, text)?;
+            let (text, after) = replace_words(&mut words, rest)?;
             let included = place_included(files, &words);
             let line = Line {
                 file: place,

@@ -1,11 +1,14 @@
 //! Words of a line.
 
-ghost use Rattle.std.specs.Prelude.{◌≡◌, ◌<◌, ◌≤◌, ◌+◌, ◌++◌, ◌∷◌, [], length, IfOk, OnOk, IfSome, IfNone, IsTrue};
+ghost use Rattle.std.specs.Prelude.{◌≡◌, ◌<◌, ◌≤◌, ◌+◌, ◌++◌, ◌∷◌, [], drop, false, length, take, IfOk, OnOk, IfSome, IfNone};
 ghost use Rattle.std.specs.List.{after_first, before_first, position, filter, slice_split};
+ghost use Rattle.avp_dict.specs.Lines.{is_line_end};
 ghost use Rattle.avp_dict.specs.Words.{is_blank, is_hash, is_word, lower, same_name, words_of};
-ghost use Rattle.avp_dict.specs.internal.LineWords.{after_word, is_in_word, word_size};
+ghost use Rattle.avp_dict.specs.internal.LineWords.{after_word, begins_blank, ends_words, from_line_end, is_in_word, line_words, word_size};
 ghost use Rattle.avp_dict.specs.internal.Views.{views};
 
+use crate::file::lanes::{LANES, run_in_word};
+use crate::file::lines::{from_line_end, is_line_end, split_at_end};
 use memchr::memchr;
 use std::alloc::{AllocError, Global};
 
@@ -103,33 +106,31 @@ fn is_hash(octet: u8) -> bool
     octet == b'#'
 }
 
-// Whether a word goes on at an octet. Most octets of a line are greater than blanks and `#`.
+fn ends_words(octet: u8) -> bool
+    ensures { result ≡ ends_words octet }
+{
+    is_hash(octet) || is_line_end(octet)
+}
+
+// Whether a word goes on at an octet. Most octets are greater than blanks, line ends and `#`.
 fn is_in_word(octet: u8) -> bool
     ensures { result ≡ is_in_word octet }
 {
-    octet > b'#' || !(is_blank(octet) || is_hash(octet))
+    octet > b'#' || !(is_blank(octet) || ends_words(octet))
 }
 
-// Whether four octets are greater than blanks and `#`, by one question.
-fn are_in_word(a: u8, b: u8, c: u8, d: u8) -> bool
-    ensures { IsTrue result → (IsTrue (is_in_word a) × (IsTrue (is_in_word b)
-        × (IsTrue (is_in_word c) × IsTrue (is_in_word d)))) }
-{
-    (a > b'#') & (b > b'#') & (c > b'#') & (d > b'#')
-}
-
-// What is left after octets of a word, four at a time.
-#[tactic(auto, using(crate::proofs::LineWords::four_more))]
-fn past_fours(text: &[u8]) -> &[u8]
+// What is left after octets of a word, sixteen at a time.
+fn past_sixteens(text: &[u8]) -> &[u8]
     ensures size { length text.now + word_size result.now ≡ length result.now + word_size text.now }
     ensures within { length result.now ≤ length text.now }
 {
     let mut rest = text;
-    while let [a, b, c, d, after @ ..] = rest {
-        if !are_in_word(*a, *b, *c, *d) {
+    while rest.len() >= LANES {
+        let run = run_in_word(rest);
+        rest = &rest[run..];
+        if run < LANES {
             return rest;
         }
-        rest = after;
     }
     rest
 }
@@ -139,7 +140,7 @@ fn word_size(text: &[u8]) -> usize
     ensures size { result ≡ word_size text.now }
     ensures within { result ≤ length text.now }
 {
-    let front = past_fours(text);
+    let front = past_sixteens(text);
     let mut rest = front;
     while let [octet, after @ ..] = rest {
         if !is_in_word(*octet) {
@@ -150,20 +151,10 @@ fn word_size(text: &[u8]) -> usize
     text.len() - rest.len()
 }
 
-// What follows the end of a word: nothing where a comment is there.
-fn after_word(text: &[u8]) -> &[u8]
-    ensures { result.now ≡ after_word text.now }
-{
-    match text {
-        [octet, after @ ..] if !is_hash(*octet) => after,
-        _ => &[],
-    }
-}
-
 // What is left after blanks.
-#[tactic(auto, using(crate::proofs::LineWords::words_blank))]
 fn past_blanks(text: &[u8]) -> &[u8]
-    ensures words { words_of result.now ≡ words_of text.now }
+    ensures words { line_words result.now ≡ line_words text.now }
+    ensures end { from_line_end result.now ≡ from_line_end text.now }
     ensures within { length result.now ≤ length text.now }
 {
     let mut rest = text;
@@ -176,26 +167,59 @@ fn past_blanks(text: &[u8]) -> &[u8]
     rest
 }
 
-// Adds the words of a line.
-#[tactic(auto, using(crate::proofs::LineWords::words_step, crate::proofs::LineWords::after_shorter))]
-fn push_words_of<'a>(words: &mut Vec<&'a [u8]>, text: &'a [u8]) -> Result<(), AllocError>
-    ensures { OnOk result (views words.new.items ≡ views words.old.items ++ words_of text.now) }
+// What follows the blanks after a word, where there are any.
+#[tactic(auto, using(crate::proofs::LineWords::after_blank, crate::proofs::LineWords::end_past_blank))]
+fn after_blanks(text: &[u8]) -> Option<&[u8]>
+    ensures words { IfSome result (λ after. line_words after.now ≡ line_words (after_word text.now)) }
+    ensures end { IfSome result (λ after. from_line_end after.now ≡ from_line_end text.now) }
+    ensures shorter { IfSome result (λ after. length after.now < length text.now) }
+    ensures none { IfNone result (begins_blank text.now ≡ false) }
 {
-    let mut rest = text;
-    while !rest.is_empty() {
-        let (word, after) = rest.split_at(word_size(rest));
-        push_part(words, word)?;
-        rest = past_blanks(after_word(after));
+    match text {
+        [octet, after @ ..] if is_blank(*octet) => Some(past_blanks(after)),
+        _ => None,
     }
-    Ok(())
 }
 
-/// Puts the words of a line in place of those of the line before it, in the same room.
-pub(crate) fn replace_words<'a>(words: &mut Vec<&'a [u8]>, text: &'a [u8]) -> Result<(), AllocError>
-    ensures { OnOk result (views words.new.items ≡ words_of text.now) }
+// Adds the word at the front, where there is one, and gives what follows it.
+fn push_word<'a>(words: &mut Vec<&'a [u8]>, text: &'a [u8]) -> Result<&'a [u8], AllocError>
+    ensures word { OnOk result (views words.new.items
+        ≡ views words.old.items ++ filter is_word (take (word_size text.now) text.now ∷ [])) }
+    ensures left { IfOk result (λ left. left.now ≡ drop (word_size text.now) text.now) }
+{
+    let (word, left) = text.split_at(word_size(text));
+    push_part(words, word)?;
+    Ok(left)
+}
+
+// Adds the words of the first line of a text, and gives what follows them.
+fn push_line_words<'a>(words: &mut Vec<&'a [u8]>, text: &'a [u8]) -> Result<&'a [u8], AllocError>
+    ensures words { OnOk result (views words.new.items
+        ≡ views words.old.items ++ line_words text.now) }
+    ensures end { IfOk result (λ left. from_line_end left.now ≡ from_line_end text.now) }
+{
+    let mut left = push_word(words, text)?;
+    while let Some(after) = after_blanks(left) {
+        left = push_word(words, after)?;
+    }
+    Ok(left)
+}
+
+/// Puts the words of the first line of a text in place of those of the line before it, in the same room. The answer is
+/// the line, and what follows it.
+#[tactic(auto, using(crate::proofs::LineWords::line_words_are))]
+pub(crate) fn replace_words<'a>(
+    words: &mut Vec<&'a [u8]>,
+    text: &'a [u8],
+) -> Result<(&'a [u8], &'a [u8]), AllocError>
+    ensures words { OnOk result (views words.new.items
+        ≡ words_of (before_first is_line_end text.now)) }
+    ensures line { IfOk result (λ x. x.0.now ≡ before_first is_line_end text.now) }
+    ensures rest { IfOk result (λ x. x.1.now ≡ after_first is_line_end text.now) }
 {
     words.clear();
-    push_words_of(words, text)
+    let left = push_line_words(words, text)?;
+    Ok(split_at_end(text, from_line_end(left)))
 }
 
 pub(crate) fn lower(octet: u8) -> u8

@@ -4,6 +4,7 @@ use Rattle.avp_lists.specs.Meets.{Unless}
 use Rattle.avp_dict.specs.Lines.{Line, expanded, file_included, file_named, included_by, lines_below, lines_in, texts_of}
 use Rattle.avp_dict.specs.internal.Refused.{is_memory_refusal}
 use Rattle.avp_dict.specs.Readings.{read_lines}
+use Rattle.avp_dict.specs.Words.{words_of}
 use Rattle.avp_dict.specs.internal.Meanings.{reading_views}
 use Rattle.avp_dict.specs.internal.Views.{views}
 use Rattle.avp_dict.proofs.Gathering.{begins, below_none, below_some, goes_on, lines_in_none, lines_in_open}
@@ -32,7 +33,7 @@ returns-in_err-read_next-clause-refused t c = λ ls.
     let rest = c.loop-rest.rest.now in
     let more : 0 < length rest = search rules in
     let whole = begins (read_lines c.args.limit files (reading_views c.loop-rest.self.readings.items)) (λ xs. read_lines c.args.limit files (reading_views c.args.self.now.readings.items) (lines_in files c.args.levels c.args.place ++ xs))
-    below c.args.place (9 - c.args.levels) c.loop-rest.number rest c.split_line.result.0.now c.split_line.result.1.now more c.split_line.ensures.line c.split_line.ensures.rest c.loop-rest.invariant.so_far ls in
+    below c.args.place (9 - c.args.levels) c.loop-rest.number rest c.in_ok-text.text.now c.in_ok-text.after.now more c.in_ok-text.ensures.line c.in_ok-text.ensures.rest c.loop-rest.invariant.so_far ls in
     rw (p.1, p.2) (subst (λ read. Unless (is_memory_refusal c.in_err-read_next.field-0.0) (read ≡ Err c.in_err-read_next.field-0.0)) whole (c.in_err-read_next.ensures.refused _))
 
 pub returns-in_err-read_file-clause-refused : goal.returns-in_err-read_file-clause-refused
@@ -41,13 +42,13 @@ returns-in_err-read_file-clause-refused t c = λ ls.
     let files = c.args.files.now in
     let below = lines_below files (lines_in files (c.args.levels - 1)) in
     let rest = c.loop-rest.rest.now in
-    let text = c.split_line.result.0.now in
+    let text = c.in_ok-text.text.now in
     let more : 0 < length rest = search rules in
     let whole = begins (read_lines c.args.limit files (reading_views c.loop-rest.self.readings.items)) (λ xs. read_lines c.args.limit files (reading_views c.args.self.now.readings.items) (lines_in files c.args.levels c.args.place ++ xs))
-    below c.args.place (9 - c.args.levels) c.loop-rest.number rest text c.split_line.result.1.now more c.split_line.ensures.line c.split_line.ensures.rest c.loop-rest.invariant.so_far ls in
-    let following : List Line = expanded below c.args.place (9 - c.args.levels) (c.loop-rest.number + 1) (texts_of c.split_line.result.1.now) in
+    below c.args.place (9 - c.args.levels) c.loop-rest.number rest text c.in_ok-text.after.now more c.in_ok-text.ensures.line c.in_ok-text.ensures.rest c.loop-rest.invariant.so_far ls in
+    let following : List Line = expanded below c.args.place (9 - c.args.levels) (c.loop-rest.number + 1) (texts_of c.in_ok-text.after.now) in
     let middle = read_lines c.args.limit files (reading_views c.read_next.new.self.readings.items) in
-    let words = ap views c.deref.ensures.value ∙ c.in_ok-replace_words.ensures in
+    let words = ap views c.deref.ensures.value ∙ c.in_ok-text.ensures.words ∙ ap words_of (sym c.in_ok-text.ensures.line) in
     let is : file_included files text ≡ Some c.in-Some.below = sym (c.place_included-included.ensures ∙ ap (λ ws. option_and_then (λ name. file_named name files) (included_by ws)) words) ∙ c.in-Some.is in
     let under = below_some files (c.args.levels - 1) text c.in-Some.below is in
     rw (p.1, p.2) (subst (λ read. Unless (is_memory_refusal c.in_err-read_file.field-0.0) (read ≡ Err c.in_err-read_file.field-0.0)) (ap (λ xs. middle (xs ++ (following ++ ls))) (sym under) ∙ (sym (c.in_ok-read_next.ensures.step _) ∙ whole)) (c.in_err-read_file.ensures.refused (following ++ ls)))
@@ -57,12 +58,12 @@ loop-rest-preserved t c =
     let files = c.args.files.now in
     let below = lines_below files (lines_in files (c.args.levels - 1)) in
     let rest = c.loop-rest.rest.now in
-    let text = c.split_line.result.0.now in
+    let text = c.in_ok-text.text.now in
     let more : 0 < length rest = search rules in
     let first = read_lines c.args.limit files (reading_views c.loop-rest.self.readings.items) in
     let all = λ (xs : List Line). read_lines c.args.limit files (reading_views c.args.self.now.readings.items) (lines_in files c.args.levels c.args.place ++ xs) in
     let middle = read_lines c.args.limit files (reading_views c.read_next.new.self.readings.items) in
-    let words = ap views c.deref.ensures.value ∙ c.in_ok-replace_words.ensures in
+    let words = ap views c.deref.ensures.value ∙ c.in_ok-text.ensures.words ∙ ap words_of (sym c.in_ok-text.ensures.line) in
     let included = sym (c.place_included-included.ensures ∙ ap (λ ws. option_and_then (λ name. file_named name files) (included_by ws)) words) in
     elim c.match-included.branch [
       | in-Some+in_ok-read_file w ↦ record {
@@ -72,7 +73,7 @@ loop-rest-preserved t c =
         longer = rw w.self-is (omega (arith, w.in_ok-read_file.ensures.longer, c.in_ok-read_next.ensures.longer));
         few = rw w.self-is (omega (arith, w.in_ok-read_file.ensures.longer, c.in_ok-read_next.ensures.longer));
         deep = refl;
-        so_far = λ ls. rw w.self-is (goes_on first all below c.args.place (9 - c.args.levels) c.loop-rest.number rest text c.split_line.result.1.now more c.split_line.ensures.line c.split_line.ensures.rest c.loop-rest.invariant.so_far middle (read_lines c.args.limit files (reading_views w.read_file.new.self.readings.items)) c.in_ok-read_next.ensures.step
+        so_far = λ ls. rw w.self-is (goes_on first all below c.args.place (9 - c.args.levels) c.loop-rest.number rest text c.in_ok-text.after.now more c.in_ok-text.ensures.line c.in_ok-text.ensures.rest c.loop-rest.invariant.so_far middle (read_lines c.args.limit files (reading_views w.read_file.new.self.readings.items)) c.in_ok-read_next.ensures.step
             (λ xs. ap (λ ys. middle (ys ++ xs)) (below_some files (c.args.levels - 1) text w.in-Some.below (included ∙ w.in-Some.is)) ∙ w.in_ok-read_file.ensures.step xs) ls);
       }
       | in_default w ↦ record {
@@ -82,7 +83,7 @@ loop-rest-preserved t c =
         longer = rw w.self-is (omega (arith, c.in_ok-read_next.ensures.longer));
         few = rw w.self-is (omega (arith, c.in_ok-read_next.ensures.longer));
         deep = refl;
-        so_far = λ ls. rw w.self-is (goes_on first all below c.args.place (9 - c.args.levels) c.loop-rest.number rest text c.split_line.result.1.now more c.split_line.ensures.line c.split_line.ensures.rest c.loop-rest.invariant.so_far middle middle c.in_ok-read_next.ensures.step
+        so_far = λ ls. rw w.self-is (goes_on first all below c.args.place (9 - c.args.levels) c.loop-rest.number rest text c.in_ok-text.after.now more c.in_ok-text.ensures.line c.in_ok-text.ensures.rest c.loop-rest.invariant.so_far middle middle c.in_ok-read_next.ensures.step
             (λ xs. ap (λ ys. middle (ys ++ xs)) (below_none files (c.args.levels - 1) text (included ∙ w.in_default.is))) ls);
       }
     ]

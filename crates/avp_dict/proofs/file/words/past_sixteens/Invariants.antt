@@ -1,5 +1,5 @@
 use Rattle.std.proofs.Common.{◌≡◌, ◌≤◌, ◌+◌, length}
-use Rattle.avp_dict.proofs.file.words.past_fours.Given as goal
+use Rattle.avp_dict.proofs.file.words.past_sixteens.Given as goal
 use Rattle.avp_dict.specs.internal.LineWords.{word_size}
 
 abbrev pub invariant-loop-rest : goal.invariant-loop-rest
