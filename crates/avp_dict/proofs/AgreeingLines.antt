@@ -13,7 +13,7 @@ use Rattle.avp_dict.specs.declared.entries.ValueLine.{ValueLine}
 use Rattle.avp_dict.specs.declared.entries.VendorLine.{VendorLine}
 use Rattle.avp_dict.specs.Dictionary.{id_of_line, is_attribute_named, is_value_named, is_vendor_named, last_where, names_other_id, names_other_value, names_other_vendor, number_of_line, vendor_named, vendor_of_line}
 use Rattle.avp_dict.specs.Words.{same_name}
-use Rattle.avp_dict.specs.internal.Agreeing.{AreAloneNames, AreAloneValues, AreAloneVendors, IsAgreeing, is_of_other_id, is_of_other_number}
+use Rattle.avp_dict.specs.internal.Agreeing.{AreAloneNames, AreAloneValues, AreAloneVendors, IsAgreeing, differs}
 use Rattle.avp_dict.specs.Meanings.{no_context}
 use Rattle.avp_dict.proofs.Agreement.{other_id_sym, other_value_sym, other_vendor_sym, same_name_refl}
 use Rattle.avp_dict.proofs.Folding.{same_as}
@@ -58,7 +58,7 @@ module _ {X K : Type 0} (named : X → Bool) (given : X → K) (eq : K → K →
 
 -- ---- ATTRIBUTE lines
 
-pub other_id : (lines : List AttributeLine) (name : List ℕ) (id : AttrId) → AreAloneNames lines → (found : Option AttributeLine) → last_where (is_attribute_named name) lines ≡ found → list_any (names_other_id name id) lines ≡ is_of_other_id id (option_map id_of_line found)
+pub other_id : (lines : List AttributeLine) (name : List ℕ) (id : AttrId) → AreAloneNames lines → (found : Option AttributeLine) → last_where (is_attribute_named name) lines ≡ found → list_any (names_other_id name id) lines ≡ differs id_eq id (option_map id_of_line found)
 other_id lines name id are None at = no_other (is_attribute_named name) id_of_line id_eq same_id lines id at
 other_id lines name id are (Some a) at =
     let held = last_holds (λ (b : AttributeLine). All (λ c. names_other_id b.name b.id c ≡ false) lines) (is_attribute_named name) lines a are at in
@@ -76,14 +76,14 @@ names_more lines new are is =
 
 -- ---- VENDOR lines
 
-other_vendor : (lines : List VendorLine) (name : List ℕ) (number : ℕ) → AreAloneVendors lines → (found : Option VendorLine) → last_where (is_vendor_named name) lines ≡ found → list_any (names_other_vendor name number) lines ≡ is_of_other_number number (option_map vendor_of_line found)
+other_vendor : (lines : List VendorLine) (name : List ℕ) (number : ℕ) → AreAloneVendors lines → (found : Option VendorLine) → last_where (is_vendor_named name) lines ≡ found → list_any (names_other_vendor name number) lines ≡ differs (λ a b. a == b) number (option_map vendor_of_line found)
 other_vendor lines name number are None at = no_other (is_vendor_named name) vendor_of_line (λ a b. a == b) equal_numbers lines number at
 other_vendor lines name number are (Some v) at =
     let held = last_holds (λ (w : VendorLine). All (λ x. names_other_vendor w.name w.number x ≡ false) lines) (is_vendor_named name) lines v are at in
     any_other (is_vendor_named name) vendor_of_line (λ a b. a == b) equal_numbers lines number v at
     (λ k d lt. ap (λ c. c && not ((get_or lines k d).number == v.number)) (sym (same_as v.name name (get_or lines k d).name held.1)) ∙ held.0 k d lt)
 
-pub other_vendor_by_last : (lines : List VendorLine) (name : List ℕ) (number : ℕ) → AreAloneVendors lines → list_any (names_other_vendor name number) lines ≡ is_of_other_number number (vendor_named name lines)
+pub other_vendor_by_last : (lines : List VendorLine) (name : List ℕ) (number : ℕ) → AreAloneVendors lines → list_any (names_other_vendor name number) lines ≡ differs (λ a b. a == b) number (vendor_named name lines)
 unfolding vendor_named
 other_vendor_by_last lines name number are = other_vendor lines name number are (last_where (is_vendor_named name) lines) refl
 
@@ -101,7 +101,7 @@ none_agreeing = record { attributes = All-nil (λ (a : AttributeLine). All (λ b
 
 -- ---- VALUE lines
 
-pub other_value : (lines : List ValueLine) (id : AttrId) (name : List ℕ) (number : ℕ) → AreAloneValues lines → (found : Option ValueLine) → last_where (is_value_named id name) lines ≡ found → list_any (names_other_value id name number) lines ≡ is_of_other_number number (option_map number_of_line found)
+pub other_value : (lines : List ValueLine) (id : AttrId) (name : List ℕ) (number : ℕ) → AreAloneValues lines → (found : Option ValueLine) → last_where (is_value_named id name) lines ≡ found → list_any (names_other_value id name number) lines ≡ differs (λ a b. a == b) number (option_map number_of_line found)
 other_value lines id name number are None at = no_other (is_value_named id name) number_of_line (λ a b. a == b) equal_numbers lines number at
 other_value lines id name number are (Some v) at =
     let held = last_holds (λ (w : ValueLine). All (λ x. names_other_value w.id w.name w.number x ≡ false) lines) (is_value_named id name) lines v are at in

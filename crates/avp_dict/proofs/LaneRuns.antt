@@ -1,9 +1,11 @@
--- From the marks of sixteen octets to how many octets come before the first mark.
-use Rattle.std.proofs.Common.{◌≡◌, ℕ, ◌+◌, ◌≤◌, ◌^◌, ◌%◌, suc, zero, Bool, true, false, not, cond, List, [], ◌∷◌, map, replicate, length, take, drop, refl, ap, ◌∙◌, arith, one-add}
-use Rattle.std.proofs.lemmas.Simd.{bitmask_splat, first_set_mask_l, length-chunk}
-use Rattle.std.specs.List.{prefix_len}
+-- From the marks of sixteen octets to the octets that pass a test.
+use Rattle.std.proofs.Common.{eqb, inl, inr, sym, zero, suc, get_or, Fits, ◌*◌, ◌&&◌, ap₂, ◌≡◌, ℕ, ◌+◌, ◌≤◌, ◌^◌, ◌%◌, Bool, true, false, not, cond, List, [], ◌∷◌, map, replicate, length, take, drop, refl, ap, ◌∙◌, arith, one-add}
+use Rattle.std.proofs.lemmas.Bool.{agree_below, agree_below_at, cases_eq, ne_eqb}
+use Rattle.std.proofs.lemmas.List.{length-map}
+use Rattle.std.proofs.lemmas.Simd.{bitmask_splat, chunk-fits, first_set_mask_l, length-chunk, map-map, mask_l-mod}
+use Rattle.std.specs.List.{list_all, prefix_len}
 use Rattle.std.specs.Int.{w8}
-use lib.Lanes.{chunk, mask_l, top, zip2}
+use lib.Lanes.{Each1, chunk, mask_l, top, zip2}
 use Rattle.avp_dict.specs.internal.Lanes.{first_marked}
 
 -- where a comparison with one octet marks lanes
@@ -29,3 +31,37 @@ run_first p q passes (suc n) (o ∷ os) = at (p o) refl (run_first p q passes n 
         let whole : 1 + prefix_len q os ≡ (1 + r) + prefix_len q (drop (1 + r) (o ∷ os)) = omega (arith, later, left) in
         rw (passes o is) whole
     at false is later = omega arith
+
+unmarked : (p : ℕ → Bool) (octets : List ℕ) → eqb (mask_l (map p octets)) 0 ≡ list_all (λ x. not (p x)) octets
+unmarked p [] = refl
+unmarked p (o ∷ os) = at (p o) refl (unmarked p os)
+  where
+    m : ℕ
+    m = mask_l (map p os)
+
+    at : (b : Bool) → p o ≡ b → eqb m 0 ≡ list_all (λ x. not (p x)) os → eqb (cond b 1 0 + 2 * m) 0 ≡ (not b && list_all (λ x. not (p x)) os)
+    at true is later = ne_eqb (1 + 2 * m) 0 (omega arith)
+    at false is later = twice m ∙ later
+      where
+        twice : (n : ℕ) → eqb (0 + 2 * n) 0 ≡ eqb n 0
+        twice n = elim (cases_eq n 0) [ inl none ↦ rw none refl | inr some ↦ ne_eqb (0 + 2 * n) 0 (omega arith) ∙ sym (ne_eqb n 0 some) ]
+
+agreeing : (stops q : ℕ → Bool) → agree_below stops (λ x. not (q x)) 256 ≡ true → (octets : List ℕ) → Each1 (Fits w8) octets → list_all (λ x. not (stops x)) octets ≡ list_all q octets
+agreeing stops q all [] fit = refl
+agreeing stops q all (o ∷ os) fit = at (q o) refl (agreeing stops q all os fit.1)
+  where
+    at : (b : Bool) → q o ≡ b → list_all (λ x. not (stops x)) os ≡ list_all q os → list_all (λ x. not (stops x)) (o ∷ os) ≡ (b && list_all q os)
+    at b is later = ap₂ (λ x y. not x && y) (agree_below_at stops (λ x. not (q x)) 256 o all fit.0.fits ∙ ap not is) later ∙ ap (λ x. x && list_all q os) (twice b)
+      where
+        twice : (x : Bool) → not (not x) ≡ x
+        twice true = refl
+        twice false = refl
+
+-- no lane is marked where each octet passes q, if a lane is marked just where q fails
+pub none_marked : (q : ℕ → Bool) (f : ℕ → ℕ) (text z : List ℕ) → 16 ≤ length text → ((k : ℕ) → Fits w8 (get_or text k 0)) → z ≡ map f (chunk 0 16 text) → agree_below (λ x. top 7 (f x)) (λ x. not (q x)) 256 ≡ true → eqb (mask_l (map (top 7) z) % 2 ^ 64) 0 ≡ list_all q (take 16 text)
+none_marked q f text z room fits lanes all =
+    let v = chunk 0 16 text in
+    let stops : ℕ → Bool = λ x. top 7 (f x) in
+    let long : length v ≡ 16 = length-chunk 0 16 text (omega arith) in
+    let mask = ap (λ l. mask_l l % 2 ^ 64) (ap (map (top 7)) lanes ∙ map-map (top 7) f v) ∙ mask_l-mod (map stops v) 64 (omega (arith, length-map v stops, long)) in
+    ap (λ m. eqb m 0) mask ∙ unmarked stops v ∙ agreeing stops q all v (chunk-fits w8 0 16 text fits)

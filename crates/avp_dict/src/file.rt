@@ -8,6 +8,7 @@ pub mod keywords;
 pub mod lanes;
 pub mod lines;
 pub mod meanings;
+pub mod name_octets;
 pub mod numbers;
 pub mod offsets;
 pub mod parts;

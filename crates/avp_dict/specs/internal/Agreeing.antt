@@ -1,8 +1,6 @@
 -- Lines that agree on what their names stand for, so that the last line of a name tells what all of them do.
-use Rattle.std.specs.Prelude.{◌≡◌, ℕ, Bool, false, not, ◌==◌, if◌then◌else◌, List, [], Option, Some, None, Result, Ok, Err}
+use Rattle.std.specs.Prelude.{◌≡◌, Bool, false, not, if◌then◌else◌, List, [], Option, Some, None, Result, Ok, Err}
 use Rattle.std.specs.List.{All, list_any}
-use Rattle.avp_lists.specs.declared.pairs.AttrId.{AttrId}
-use Rattle.avp_lists.specs.Pairs.{id_eq}
 use Rattle.avp_dict.specs.declared.entries.AttributeLine.{AttributeLine}
 use Rattle.avp_dict.specs.declared.entries.ValueLine.{ValueLine}
 use Rattle.avp_dict.specs.declared.entries.VendorLine.{VendorLine}
@@ -57,10 +55,7 @@ agreeing values (Some v) =
 
 -- ---- the last line of a name
 
-abbrev pub is_of_other_id : AttrId → Option AttrId → Bool
-is_of_other_id id None = false
-is_of_other_id id (Some other) = not (id_eq other id)
-
-abbrev pub is_of_other_number : ℕ → Option ℕ → Bool
-is_of_other_number number None = false
-is_of_other_number number (Some other) = not (other == number)
+-- whether something was found, and by this test of equality something else
+abbrev pub differs : {A : Type 0} → (A → A → Bool) → A → Option A → Bool
+differs equals own None = false
+differs equals own (Some other) = not (equals other own)

@@ -19,6 +19,7 @@ use crate::entries::VendorFormat;
 use crate::faults::{DictKind, RefusedWord, miscounted};
 use crate::file::context::Context;
 use crate::file::meanings::Meaning;
+use crate::file::name_octets::{OfAttribute, are_octets_of};
 use crate::file::numbers::{GREATEST_NUMBER, Number, is_number, number_of};
 use crate::file::parts::{first_between, parts_between};
 use crate::file::types::{are_flags, typing_of};
@@ -176,26 +177,10 @@ fn is_decimal(octet: u8) -> bool
     octet >= b'0' && octet <= b'9'
 }
 
-// Without a branch, so that a loop takes many octets at a time. `-`, `.`, `/` and the digits follow one another.
-pub(crate) fn is_name_octet(octet: u8) -> bool
-    ensures { result ≡ is_name_octet octet }
-{
-    (octet >= b'a') & (octet <= b'z')
-        | (octet >= b'A') & (octet <= b'Z')
-        | (octet >= b'-') & (octet <= b'9')
-        | (octet == b'_')
-}
-
-// Each octet is looked at, since a loop with one way out looks at many at a time.
-#[tactic(auto, using(crate::proofs::NameOctets::one_more))]
 fn are_octets_of_name(name: &[u8]) -> bool
     ensures { result ≡ list_all is_name_octet name.now }
 {
-    let mut all = true;
-    for octet in name {
-        all = all & is_name_octet(*octet);
-    }
-    all
+    are_octets_of::<OfAttribute>(name)
 }
 
 /// Whether a name begins with `Attr-` and a digit.

@@ -1,6 +1,6 @@
 //! Numbers of a line.
 
-ghost use Rattle.std.specs.Prelude.{◌≡◌, ◌≤◌, ◌+◌, ◌*◌, ℕ, Option, is_some};
+ghost use Rattle.std.specs.Prelude.{◌≡◌, ◌≤◌, ◌+◌, ◌*◌, ◌^◌, ℕ, MatchOption, Option, is_some};
 ghost use Rattle.std.specs.Char.{digit_value};
 ghost use Rattle.avp_lists.specs.Meets.{Meets};
 ghost use Rattle.avp_dict.specs.Outcomes.{is_memory_kind};
@@ -56,6 +56,36 @@ pub(crate) fn digits(base: u64, word: &[u8]) -> Number
     if word.is_empty() {
         return Number::Unreadable;
     }
+    let mut number = 0;
+    for octet in word {
+        let next = digit(*octet);
+        if next >= base {
+            return Number::Unreadable;
+        }
+        match with_digit(base, number, next) {
+            Some(more) => number = more,
+            None => return many_digits(base, word),
+        }
+    }
+    Number::Is(number)
+}
+
+// One more digit, where the number stays below 2 ^ 64.
+fn with_digit(base: u64, number: u64, next: u64) -> Option<u64>
+    ensures { MatchOption result (2 ^ 64 ≤ number * base + next)
+        (λ more. more ≡ number * base + next) }
+{
+    number.checked_mul(base)?.checked_add(next)
+}
+
+// The same of a word whose number may be 2 ^ 64 or more.
+fn many_digits(base: u64, word: &[u8]) -> Number
+    requires { 2 ≤ base }
+    ensures { Reads result (digits base word.now) }
+{
+    if word.is_empty() {
+        return Number::Unreadable;
+    }
     let mut number = Number::Is(0);
     for octet in word {
         let next = digit(*octet);
@@ -73,12 +103,9 @@ fn extended(base: u64, number: Number, next: u64) -> Number
     ensures { (n : ℕ) → Holds number n → Holds result (n * base + next) }
 {
     match number {
-        Number::Is(value) => match value.checked_mul(base) {
+        Number::Is(value) => match with_digit(base, value, next) {
             None => Number::TooGreat,
-            Some(shifted) => match shifted.checked_add(next) {
-                None => Number::TooGreat,
-                Some(sum) => Number::Is(sum),
-            },
+            Some(more) => Number::Is(more),
         },
         other => other,
     }

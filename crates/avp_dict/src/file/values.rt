@@ -18,8 +18,8 @@ ghost use Rattle.avp_dict.specs.internal.Targets.{IsTarget};
 use crate::contents::Contents;
 use crate::entries::{Kind, Note, Typing, ValueLine};
 use crate::faults::{DictKind, RefusedLine, RefusedWord};
-use crate::file::attributes::is_name_octet;
 use crate::file::meanings::{Meaning, Reading};
+use crate::file::name_octets::{OfValue, are_octets_of};
 use crate::file::numbers::digits;
 use crate::file::settling::LastFormat;
 use crate::file::words::MAX_NAME;
@@ -32,22 +32,10 @@ use std::alloc::{AllocError, Global};
 // The greatest number beside a tag, of three octets (RFC 2868, section 3.1).
 const MAX_TAGGED_NUMBER: u64 = 16_777_215;
 
-fn is_value_name_octet(octet: u8) -> bool
-    ensures { result ≡ is_value_name_octet octet }
-{
-    is_name_octet(octet) | (octet == b':') | (octet == b'@')
-}
-
-// Each octet is looked at, since a loop with one way out looks at many at a time.
-#[tactic(auto, using(crate::proofs::NameOctets::one_more))]
 fn are_octets_of_value_name(name: &[u8]) -> bool
     ensures { result ≡ list_all is_value_name_octet name.now }
 {
-    let mut all = true;
-    for octet in name {
-        all = all & is_value_name_octet(*octet);
-    }
-    all
+    are_octets_of::<OfValue>(name)
 }
 
 fn reads_as_number(word: &[u8]) -> bool

@@ -3,9 +3,10 @@ ghost use Rattle.std.specs.List.{list_any};
 ghost use Rattle.std.specs.Option.{option_and_then, option_copied, option_map, option_map_or};
 ghost use Rattle.std.specs.Set.{distinct_count};
 ghost use Rattle.std.specs.Str.{bytes_eq};
+ghost use Rattle.avp_lists.specs.Pairs.{id_eq};
 ghost use Rattle.avp_dict.specs.Dictionary.{attribute_key, first_names, id_named, id_of_line, is_attribute_named, is_attribute_of, is_secret_line_of, last_where, names_other_id, typing_of_id};
 ghost use Rattle.avp_dict.specs.Letters.{max_name};
-ghost use Rattle.avp_dict.specs.internal.Agreeing.{AreAloneNames, is_of_other_id};
+ghost use Rattle.avp_dict.specs.internal.Agreeing.{AreAloneNames, differs};
 ghost use Rattle.avp_dict.specs.internal.AttributeRows.{line_of, lines_of, marked_by};
 ghost use Rattle.avp_dict.specs.internal.Tables.{IsLastAt};
 
@@ -74,8 +75,9 @@ impl Model for Attributes {
     ghost invariant = { λ t. KeepMarks t.rows };
 }
 
+// By `equals`, since of an id's derived `==` nothing is known outside its crate.
 fn is_of_other_id(id: AttrId, found: Option<AttrId>) -> bool
-    ensures { result ≡ is_of_other_id id found }
+    ensures { result ≡ differs id_eq id found }
 {
     match found {
         Some(other) => !other.equals(id),

@@ -3,9 +3,10 @@ ghost use Rattle.std.specs.List.{list_any};
 ghost use Rattle.std.specs.Option.{option_and_then, option_copied, option_map};
 ghost use Rattle.avp_dict.specs.Dictionary.{is_number_found, is_value_named, is_value_numbered, last_where, name_numbered, names_other_value, number_named, number_of_line, tagged_name_numbered};
 ghost use Rattle.avp_dict.specs.Letters.{max_name};
-ghost use Rattle.avp_dict.specs.internal.Agreeing.{AreAloneValues, is_of_other_number};
+ghost use Rattle.avp_dict.specs.internal.Agreeing.{AreAloneValues};
 
 use crate::entries::ValueLine;
+use crate::tables::differs;
 use crate::tables::keyed::{Keyed, KeyedLines};
 use crate::tables::keys::{FoldedName, IdKey, id_key};
 use avp_lists::AttrId;
@@ -30,15 +31,6 @@ impl Keyed for ValueLine {
 
     fn number_key(&self) -> (IdKey, u64) {
         (id_key(self.id), self.number)
-    }
-}
-
-fn is_of_other_number(number: u64, found: Option<u64>) -> bool
-    ensures { result ≡ is_of_other_number number found }
-{
-    match found {
-        Some(other) => other != number,
-        None => false,
     }
 }
 
@@ -100,7 +92,7 @@ impl KeyedLines<ValueLine> {
     {
         let number = line.number;
         let place = self.put(line)?;
-        Ok(is_of_other_number(number, self.number_at(place)))
+        Ok(differs(number, self.number_at(place)))
     }
 
     /// The printed name of a number: the last one.

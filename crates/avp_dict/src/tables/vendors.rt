@@ -2,9 +2,10 @@ ghost use Rattle.std.specs.Prelude.{◌≡◌};
 ghost use Rattle.std.specs.List.{list_any};
 ghost use Rattle.std.specs.Option.{option_copied};
 ghost use Rattle.avp_dict.specs.Dictionary.{format_of, is_vendor_named, is_vendor_numbered, last_where, names_other_vendor, vendor_named};
-ghost use Rattle.avp_dict.specs.internal.Agreeing.{AreAloneVendors, is_of_other_number};
+ghost use Rattle.avp_dict.specs.internal.Agreeing.{AreAloneVendors};
 
 use crate::entries::{VendorFormat, VendorLine};
+use crate::tables::differs;
 use crate::tables::keyed::{Keyed, KeyedLines};
 use crate::tables::keys::FoldedName;
 
@@ -27,15 +28,6 @@ impl Keyed for VendorLine {
 
     fn number_key(&self) -> u32 {
         self.number
-    }
-}
-
-fn is_of_other_number(number: u32, found: Option<u32>) -> bool
-    ensures { result ≡ is_of_other_number number found }
-{
-    match found {
-        Some(other) => other != number,
-        None => false,
     }
 }
 
@@ -71,7 +63,7 @@ impl KeyedLines<VendorLine> {
         requires { AreAloneVendors self.now }
         ensures { result ≡ list_any (names_other_vendor name.now number) self.now }
     {
-        is_of_other_number(number, self.vendor_named(name))
+        differs(number, self.vendor_named(name))
     }
 
     /// The format of a vendor: that of its last line.

@@ -1,7 +1,6 @@
-use Rattle.std.proofs.Common.{◌≡◌, ℕ, drop}
+use Rattle.std.proofs.Common.{◌≡◌, drop}
 use Rattle.avp_dict.proofs.file.numbers.digits.Given as goal
 use Rattle.avp_dict.specs.Words.{digits, number_after}
-use Rattle.avp_dict.specs.internal.Numbers.{Holds}
 
 abbrev pub invariant-loop-octet : goal.invariant-loop-octet
-invariant-loop-octet l = (n : ℕ) × Holds l.number n × (number_after l.base n (drop l.octet-index l.word) ≡ digits l.base l.word)
+invariant-loop-octet l = number_after l.base l.number (drop l.octet-index l.word) ≡ digits l.base l.word
