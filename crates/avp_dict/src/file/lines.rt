@@ -87,10 +87,18 @@ fn file_named(files: &[NamedFile], name: &[u8]) -> Option<usize>
     files.iter().position(|file| file.name.as_slice() == name)
 }
 
+// Most words begin with another octet than `$`.
+#[tactic(auto, using(crate::proofs::KeywordCases::no_include))]
+#[inline(always)]
 pub(crate) fn is_include(word: &[u8]) -> bool
     ensures { result ≡ is_include word.now }
 {
-    same_name(word, DOLLAR_INCLUDE) || same_name(word, DOLLAR_INCLUDE_IF_THERE)
+    match word {
+        [b'$', ..] => {
+            same_name(word, DOLLAR_INCLUDE) || same_name(word, DOLLAR_INCLUDE_IF_THERE)
+        }
+        _ => false,
+    }
 }
 
 fn included<'a>(words: &[&'a [u8]]) -> Option<&'a [u8]>

@@ -48,7 +48,8 @@ fn digit(octet: u8) -> u64
     }
 }
 
-/// The number that the digits of a word are.
+/// The number that the digits of a word are. Inlined, so that a loop knows its base.
+#[inline(always)]
 pub(crate) fn digits(base: u64, word: &[u8]) -> Number
     requires { 2 ≤ base }
     ensures { Reads result (digits base word.now) }
@@ -71,6 +72,7 @@ pub(crate) fn digits(base: u64, word: &[u8]) -> Number
 }
 
 // One more digit, where the number stays below 2 ^ 64.
+#[inline(always)]
 fn with_digit(base: u64, number: u64, next: u64) -> Option<u64>
     ensures { MatchOption result (2 ^ 64 ≤ number * base + next)
         (λ more. more ≡ number * base + next) }

@@ -58,12 +58,12 @@ impl FoldedName {
         requires { length name.now ≤ max_name }
         ensures { result ≡ map lower name.now }
     {
-        let mut folded = FoldedName {
-            octets: [0; MAX_NAME],
+        let mut octets = [0; MAX_NAME];
+        fold(&mut octets, name);
+        FoldedName {
+            octets,
             size: name.len(),
-        };
-        fold(&mut folded.octets, name);
-        folded
+        }
     }
 
     pub fn as_slice(&self) -> &[u8]
