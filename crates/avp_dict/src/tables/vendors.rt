@@ -42,11 +42,14 @@ impl KeyedLines<VendorLine> {
         self.named(FoldedName::of(name))
     }
 
-    /// The last line with this number.
+    /// The last line with this number. Mostly it is the last line of all, which the vendor's block follows.
     pub fn by_number(&self, number: u32) -> Option<&VendorLine>
         ensures { option_copied result ≡ last_where (is_vendor_numbered number) self.now }
     {
-        self.numbered(&number)
+        match self.as_slice() {
+            [.., last] if last.number == number => Some(last),
+            _ => self.numbered(&number),
+        }
     }
 
     /// The number of the vendor with this name.
