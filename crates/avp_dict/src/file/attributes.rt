@@ -68,7 +68,7 @@ fn number_id(vendors: &Vendors, block: Option<u32>, number: u32) -> Option<AttrI
 {
     match block {
         None => Some(AttrId::Plain(number)),
-        Some(vendor) => vendor_id(vendor, number, vendors.format_of(vendor)),
+        Some(vendor) => vendor_id(vendor, number, vendors.format_in_block(vendor)),
     }
 }
 

@@ -42,14 +42,11 @@ impl KeyedLines<VendorLine> {
         self.named(FoldedName::of(name))
     }
 
-    /// The last line with this number. Mostly it is the last line of all, which the vendor's block follows.
+    /// The last line with this number.
     pub fn by_number(&self, number: u32) -> Option<&VendorLine>
         ensures { option_copied result ≡ last_where (is_vendor_numbered number) self.now }
     {
-        match self.as_slice() {
-            [.., last] if last.number == number => Some(last),
-            _ => self.numbered(&number),
-        }
+        self.numbered(&number)
     }
 
     /// The number of the vendor with this name.
@@ -76,5 +73,16 @@ impl KeyedLines<VendorLine> {
     {
         let line = self.by_number(number)?;
         Some(line.format)
+    }
+
+    /// The same, for a line in the vendor's block: mostly the last VENDOR line of all is the vendor's.
+    #[tactic(auto, unfolding(crate::specs::Dictionary::format_of))]
+    pub fn format_in_block(&self, number: u32) -> Option<VendorFormat>
+        ensures { result ≡ format_of number self.now }
+    {
+        match self.as_slice() {
+            [.., last] if last.number == number => Some(last.format),
+            _ => self.format_of(number),
+        }
     }
 }
