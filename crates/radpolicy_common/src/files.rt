@@ -12,10 +12,11 @@ ghost use Rattle.radpolicy_common.specs.declared.files.Unread.TheVariants as why
 use crate::inputs::Inputs;
 use avp_dict::{FileSet, NamedFile};
 use avp_lists::Octets;
-use radpolicy::{Fault, read_input};
+use radpolicy::{Fault, MAX_INPUT_OCTETS, read_input};
 use std::alloc::{AllocError, AllocFailed, Global};
 use std::fs::File;
 use std::io;
+use std::io::Read;
 
 /// Why files were not all read.
 #[derive(Clone, Copy, Debug, Drop, PartialEq, Eq)]
@@ -75,13 +76,38 @@ fn octets_of(name: &str, read: io::Result<Option<Octets>>) -> Result<Octets, Unr
     }
 }
 
+// How much room a file wants by its size, with one octet more, in which its end is met. Reading goes on to the end,
+// whatever the size says; for a pipe, which has none, no room is made before.
+fn room_for(file: &File) -> usize {
+    match file.metadata() {
+        Ok(metadata) if metadata.len() > 0 => metadata
+            .len()
+            .min(MAX_INPUT_OCTETS as u64 + 1) as usize
+            + 1,
+        _ => 0,
+    }
+}
+
+// The octets of a file, or none where it has more than an input file may have.
+fn octets_in(alloc: Global, file: File) -> io::Result<Option<Octets>> {
+    let mut octets = Vec::with_capacity(alloc, room_for(&file))?;
+    let count = file
+        .take(MAX_INPUT_OCTETS as u64 + 1)
+        .read_to_end(&mut octets)?;
+    if count <= MAX_INPUT_OCTETS {
+        Ok(Some(Octets::from_vec(octets)))
+    } else {
+        Ok(None)
+    }
+}
+
 /// What a file holds, at most 16,777,216 octets.
 pub fn read_file<'a>(rt: &HostRuntime, path: &'a str) -> Result<Octets, Unread<'a>>
     ensures { IfErr result (λ unread.
         (unread ≡ Unread.Memory) ⊎ (unread ≡ Unread.File path.entry)) }
 {
     match File::open(rt, path) {
-        Ok(file) => octets_of(path, read_input(rt.alloc(), file)),
+        Ok(file) => octets_of(path, octets_in(rt.alloc(), file)),
         Err(error) => octets_of(path, Err(error)),
     }
 }
