@@ -16,7 +16,7 @@ use radpolicy::{Fault, MAX_INPUT_OCTETS, read_input};
 use std::alloc::{AllocError, AllocFailed, Global};
 use std::fs::File;
 use std::io;
-use std::io::Read;
+use std::io::{Read, Seek, SeekFrom};
 
 /// Why files were not all read.
 #[derive(Clone, Copy, Debug, Drop, PartialEq, Eq)]
@@ -77,20 +77,20 @@ fn octets_of(name: &str, read: io::Result<Option<Octets>>) -> Result<Octets, Unr
 }
 
 // How much room a file wants by its size, with one octet more, in which its end is met. Reading goes on to the end,
-// whatever the size says; for a pipe, which has none, no room is made before.
-fn room_for(file: &File) -> usize {
-    match file.metadata() {
-        Ok(metadata) if metadata.len() > 0 => metadata
-            .len()
-            .min(MAX_INPUT_OCTETS as u64 + 1) as usize
-            + 1,
-        _ => 0,
+// whatever the size says; for a pipe, and for a file of `/proc`, which tell none, no room is made before.
+fn room_for(file: &mut File) -> io::Result<usize> {
+    match file.seek(SeekFrom::End(0)) {
+        Ok(size) if size > 0 => {
+            file.seek(SeekFrom::Start(0))?;
+            Ok(size.min(MAX_INPUT_OCTETS as u64 + 1) as usize + 1)
+        }
+        _ => Ok(0),
     }
 }
 
 // The octets of a file, or none where it has more than an input file may have.
-fn octets_in(alloc: Global, file: File) -> io::Result<Option<Octets>> {
-    let mut octets = Vec::with_capacity(alloc, room_for(&file))?;
+fn octets_in(alloc: Global, mut file: File) -> io::Result<Option<Octets>> {
+    let mut octets = Vec::with_capacity(alloc, room_for(&mut file)?)?;
     let count = file
         .take(MAX_INPUT_OCTETS as u64 + 1)
         .read_to_end(&mut octets)?;
