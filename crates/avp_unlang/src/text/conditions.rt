@@ -684,6 +684,9 @@ fn both<'a>(
     ensures shorter { IfOk result (λ x. length x.1.text ≤ length at.entry.text) }
 {
     let (first, mut rest) = operand(alloc, profile, dictionary, depth, at)?;
+    if !rest.is_before(Sign::And) {
+        return Ok((first, rest));
+    }
     let mut conds = Vec::new(alloc);
     conds.push(first)?;
     while let Some(next) = rest.after_sign(Sign::And) {
@@ -709,6 +712,9 @@ fn either<'a>(
     ensures shorter { IfOk result (λ x. length x.1.text ≤ length at.entry.text) }
 {
     let (first, mut rest) = both(alloc, profile, dictionary, depth, at)?;
+    if !rest.is_before(Sign::Or) {
+        return Ok((first, rest));
+    }
     let mut conds = Vec::new(alloc);
     conds.push(first)?;
     while let Some(next) = rest.after_sign(Sign::Or) {

@@ -1,6 +1,6 @@
 //! How far a policy text has been read.
 
-ghost use Rattle.std.specs.Prelude.{◌≡◌, ◌≢◌, ◌≤◌, ◌<◌, ◌+◌, ◌^◌, length, IfSome, IfNone, IfErr, IfOk, false};
+ghost use Rattle.std.specs.Prelude.{◌≡◌, ◌≢◌, ◌≤◌, ◌<◌, ◌+◌, ◌^◌, length, IfSome, IfNone, IfErr, IfOk, IsFalse, false};
 ghost use Rattle.avp_unlang.specs.Forms.{Takes};
 ghost use Rattle.avp_unlang.specs.Tokens.{passed, skipped, next_token};
 ghost use Rattle.avp_unlang.specs.Places.{Place, start_of, counted};
@@ -50,6 +50,7 @@ impl<'a> Model for Cursor<'a> {
 /// What a reader answers: what it read, and the place after it.
 pub(crate) type Read<'a, T> = Result<(T, Cursor<'a>), Refusal>;
 
+#[inline(always)]
 #[tactic(auto, unfolding(crate::specs::Tokens::passed))]
 fn passed(line: usize, comment: bool, octet: u8) -> Option<(usize, bool)>
     requires { line + 1 < 2 ^ 64 }
@@ -66,6 +67,7 @@ fn passed(line: usize, comment: bool, octet: u8) -> Option<(usize, bool)>
 }
 
 /// The line and the text where the next token begins.
+#[inline(always)]
 pub(crate) fn skipped(line: usize, text: &[u8]) -> (usize, &[u8])
     requires { line + length text.now < 2 ^ 64 }
     ensures skipped { (result.0, result.1.now) ≡ skipped line false text.now }
@@ -193,12 +195,20 @@ impl<'a> Cursor<'a> {
     }
 
     /// The next token, and the place after it.
+    #[inline(always)]
     pub(crate) fn next(&self) -> (Token<'a>, Cursor<'a>)
         ensures same { result ≡ next_token self.now }
         ensures within { length result.1.text ≤ length self.now.text }
         ensures shorter { result.0 ≢ End → length result.1.text < length self.now.text }
     {
         (self.token().copy(), self.after())
+    }
+
+    /// Whether this operator or bracket comes next.
+    pub(crate) fn is_before(&self, sign: Sign) -> bool
+        ensures none { IsFalse result → (rest : Place) → Follows (Operator sign) self.now rest → ⊥ }
+    {
+        matches!(self.token(), Token::Operator(other) if *other == sign)
     }
 
     /// The place after this operator or bracket, if it comes next.

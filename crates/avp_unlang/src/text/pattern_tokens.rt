@@ -95,6 +95,7 @@ fn pattern_at<'a>(negated: bool, text: &'a [u8]) -> (Token<'a>, &'a [u8])
 }
 
 /// The token that a text of a profile begins with, and the text after it.
+#[inline(always)]
 #[tactic(auto, unfolding(crate::specs::Tokens::token_in))]
 pub(crate) fn token_in<'a>(profile: Profile, text: &'a [u8]) -> (Token<'a>, &'a [u8])
     ensures same { (result.0, result.1.now) ≡ token_in profile text.now }

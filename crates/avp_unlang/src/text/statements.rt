@@ -223,8 +223,7 @@ fn branches<'a>(
     ensures shorter { IfOk result (λ x. length x.1.text < length at.entry.text) }
 {
     let (first, mut rest) = branch(alloc, profile, dictionary, depth, begin, at)?;
-    let mut branches = Vec::new(alloc);
-    branches.push(first)?;
+    let mut branches = vec![in alloc; first]?;
     while let Some(next) = rest.after_word(b"elsif") {
         let (branch, end) = branch(alloc, profile, dictionary, depth, rest.position(), next)?;
         branches.push(branch)?;

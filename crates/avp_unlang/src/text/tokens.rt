@@ -1,6 +1,6 @@
 //! The tokens of a policy text.
 
-ghost use Rattle.std.specs.Prelude.{◌≡◌, ◌≢◌, ◌≤◌, ◌<◌, [], ◌∷◌, length, MatchOption, IfSome, false, option_map};
+ghost use Rattle.std.specs.Prelude.{◌≡◌, ◌≢◌, ◌≤◌, ◌<◌, [], ◌∷◌, ℕ, length, MatchOption, IfSome, IsTrue, None, false, option_map};
 ghost use Rattle.avp_unlang.specs.declared.text.tokens.Token.TheVariants.{End};
 ghost use Rattle.avp_unlang.specs.Tokens.{is_in_word, word_length, quoted_length, quoted_at, word_at, sign_named, operator_at, quote_of, text_at, token_at};
 
@@ -70,10 +70,10 @@ pub(crate) enum Sign {
 /// A comparison with a pattern.
 #[derive(Drop)]
 pub(crate) struct Matcher<'a> {
-    /// Whether its sign is `!~` and not `=~`.
-    pub negated: bool,
     /// The octets between the slashes, as they are in the text.
     pub pattern: Excerpt<'a>,
+    /// Whether its sign is `!~` and not `=~`.
+    pub negated: bool,
     pub flags: PatternFlags,
 }
 
@@ -142,6 +142,7 @@ impl<'a> Token<'a> {
 }
 
 /// The first octet and those after it.
+#[inline(always)]
 pub(crate) fn front(text: &[u8]) -> Option<(u8, &[u8])>
     ensures { MatchOption result (text.now ≡ []) (λ p. text.now ≡ p.0 ∷ p.1.now) }
 {
@@ -149,16 +150,22 @@ pub(crate) fn front(text: &[u8]) -> Option<(u8, &[u8])>
     Some((*first, rest))
 }
 
+#[inline(always)]
 #[tactic(auto, unfolding(crate::specs::Tokens::is_in_word, crate::specs::Tokens::is_word_octet))]
 fn is_in_word(octet: u8, after: &[u8]) -> bool
     ensures { result ≡ is_in_word octet after.now }
 {
-    let is_word_octet = octet.is_ascii_alphanumeric()
-        || matches!(octet, b'-' | b'_' | b'.' | b'/' | b':' | b'@');
-    let is_before_equal = after.first() == Some(&b'=');
-    is_word_octet && !((octet == b':' || octet == b'-') && is_before_equal)
+    if octet.is_ascii_alphanumeric() {
+        return true;
+    }
+    match octet {
+        b'_' | b'.' | b'/' | b'@' => true,
+        b'-' | b':' => after.first() != Some(&b'='),
+        _ => false,
+    }
 }
 
+#[inline(always)]
 pub(crate) fn word_length(text: &[u8]) -> usize
     ensures same { result ≡ word_length text.now }
     ensures within { result ≤ length text.now }
@@ -196,6 +203,7 @@ pub(crate) fn quoted_length(closing: u8, text: &[u8]) -> Option<usize>
     None
 }
 
+#[inline(always)]
 #[tactic(auto, unfolding(crate::specs::Tokens::sign_named))]
 fn double(first: u8, second: u8) -> Option<Sign>
     ensures { result ≡ sign_named (first ∷ second ∷ []) }
@@ -216,6 +224,7 @@ fn double(first: u8, second: u8) -> Option<Sign>
     }
 }
 
+#[inline(always)]
 #[tactic(auto, unfolding(crate::specs::Tokens::sign_named))]
 fn single(octet: u8) -> Option<Sign>
     ensures { result ≡ sign_named (octet ∷ []) }
@@ -234,12 +243,26 @@ fn single(octet: u8) -> Option<Sign>
     }
 }
 
+// Whether no operator begins with this octet.
+#[inline(always)]
+#[tactic(auto, unfolding(crate::specs::Tokens::sign_named))]
+fn begins_no_operator(octet: u8) -> bool
+    ensures single { IsTrue result → sign_named (octet ∷ []) ≡ None }
+    ensures double { IsTrue result → (second : ℕ) → sign_named (octet ∷ second ∷ []) ≡ None }
+{
+    octet.is_ascii_alphabetic()
+}
+
+#[inline(always)]
 #[tactic(auto, unfolding(crate::specs::Tokens::operator_at))]
 fn operator_at(text: &[u8]) -> Option<(Sign, &[u8])>
     ensures same { option_map (λ x. (x.0, x.1.now)) result ≡ operator_at text.now }
     ensures shorter { IfSome result (λ x. length x.1.now < length text.now) }
 {
     let (first, rest) = front(text)?;
+    if begins_no_operator(first) {
+        return None;
+    }
     if let Some((second, after)) = front(rest) {
         if let Some(sign) = double(first, second) {
             return Some((sign, after));
@@ -249,6 +272,7 @@ fn operator_at(text: &[u8]) -> Option<(Sign, &[u8])>
     Some((sign, rest))
 }
 
+#[inline(always)]
 fn quoted_at<'a>(mark: QuoteMark, closing: u8, text: &'a [u8]) -> (Token<'a>, &'a [u8])
     ensures same { (result.0, result.1.now) ≡ quoted_at mark text.now
         (quoted_length closing false text.now) }
@@ -263,6 +287,7 @@ fn quoted_at<'a>(mark: QuoteMark, closing: u8, text: &'a [u8]) -> (Token<'a>, &'
     }
 }
 
+#[inline(always)]
 fn word_at<'a>(text: &'a [u8]) -> (Token<'a>, &'a [u8])
     requires { 0 < length text.now }
     ensures same { (result.0, result.1.now) ≡ word_at text.now (word_length text.now) }
@@ -289,6 +314,7 @@ fn quote_of(octet: u8) -> Option<QuoteMark>
 }
 
 /// The token that a text begins with, and the text after it.
+#[inline(always)]
 #[tactic(auto, unfolding(crate::specs::Tokens::token_at, crate::specs::Tokens::text_at))]
 pub(crate) fn token_at<'a>(text: &'a [u8]) -> (Token<'a>, &'a [u8])
     ensures same { (result.0, result.1.now) ≡ token_at text.now }

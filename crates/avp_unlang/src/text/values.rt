@@ -1,7 +1,8 @@
 //! Values as policy texts write them.
 
-ghost use Rattle.std.specs.Prelude.{◌≡◌, ◌≢◌, ◌≤◌, length, Some, None, IfOk, IfErr};
+ghost use Rattle.std.specs.Prelude.{◌≡◌, ◌≢◌, ◌≤◌, length, Some, None, IfOk, IfErr, IsTrue};
 ghost use Rattle.avp_dict.specs.Quotes.{octets_between};
+ghost use Rattle.avp_dict.specs.declared.value.quotes.QuoteMark.{QuoteMark as TheQuoteMark};
 ghost use Rattle.avp_unlang.specs.Forms.{Reads};
 ghost use Rattle.avp_unlang.specs.RefusedForms.{Tells};
 ghost use Rattle.avp_unlang.specs.RefusedValues.{IsValueRefused, WrittenFails, literal_refusal, value_kind, value_place};
@@ -84,6 +85,13 @@ pub(crate) fn literal(
     }
 }
 
+// Whether a text between quotes has no escape in it, and so stands for its own octets.
+fn has_no_escape(text: &[u8]) -> bool
+    ensures { IsTrue result → (mark : TheQuoteMark) → octets_between mark text.now ≡ text.now }
+{
+    !text.contains(&b'\\')
+}
+
 /// The value that a text between quotes stands for under a name.
 pub(crate) fn quoted_literal(
     alloc: Global,
@@ -102,7 +110,11 @@ pub(crate) fn quoted_literal(
         (literal_refusal profile dictionary.now target (octets_between mark text.now))
         positions.name.left positions.value.left)) }
 {
-    let octets = octets_between(alloc, mark, text.as_slice())?;
+    let written = text.as_slice();
+    if has_no_escape(written) {
+        return literal(alloc, profile, dictionary, target, written, positions);
+    }
+    let octets = octets_between(alloc, mark, written)?;
     literal(alloc, profile, dictionary, target, &octets, positions)
 }
 

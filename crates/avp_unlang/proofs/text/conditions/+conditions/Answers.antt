@@ -1,4 +1,4 @@
-use Rattle.std.proofs.Common.{◌≡◌, suc, ◌-◌, inl, inr, subst, arith, ap, refl, rules}
+use Rattle.std.proofs.Common.{◌≡◌, suc, ◌-◌, [], ◌∷◌, false, inl, inr, subst, arith, ap, refl, rules}
 use Rattle.avp_unlang.specs.declared.text.tokens.Sign.TheVariants.{And, Or}
 use Rattle.avp_unlang.specs.declared.text.tokens.Sign.TheVariants as sign
 use Rattle.avp_unlang.specs.declared.text.tokens.Token.TheVariants.{Operator}
@@ -15,6 +15,11 @@ use Rattle.avp_unlang.proofs.Determined.{exits, then_stops}
 use Rattle.avp_unlang.proofs.LinesOne.{follows_sure}
 use Rattle.avp_unlang.proofs.ConditionsOne.{within_one, both_one, operand_reads, negated_refused, closed_refused, unclosed_refused, closed_reads}
 use Rattle.avp_unlang.proofs.text.conditions.+conditions.Goals as goal
+
+pub both-returns-then-not-is_before-clause-read : goal.both-returns-then-not-is_before-clause-read
+both-returns-then-not-is_before-clause-read t c =
+    let off : c.is_before.result ≡ false = search rules in
+    (c.in_ok-first.first ∷ [], c.in_ok-first.rest, (c.in_ok-first.rest, c.in_ok-first.ensures.read, (c.is_before.ensures.none off, refl)), (refl, refl))
 
 pub both-loop-next-init : goal.both-loop-next-init
 both-loop-next-init t c = record {
@@ -54,6 +59,11 @@ either-returns-in_err-first-clause-read t c =
     exits (Either (Within c.args.profile c.args.dictionary.now (suc c.args.depth)) c.args.at) _ _ c.from_residual.ensures.1
     (then_stops (Chain (Follows (Operator Or)) (Both (Within c.args.profile c.args.dictionary.now (suc c.args.depth)))) (λ cs. Gives (any_of cs)) c.args.at c.in_err-first.field-0.0
     (chain_stops (Follows (Operator Or)) (Both (Within c.args.profile c.args.dictionary.now (suc c.args.depth))) c.args.at c.in_err-first.field-0.0 c.in_err-first.ensures.read))
+
+pub either-returns-then-not-is_before-clause-read : goal.either-returns-then-not-is_before-clause-read
+either-returns-then-not-is_before-clause-read t c =
+    let off : c.is_before.result ≡ false = search rules in
+    (c.in_ok-first.first ∷ [], c.in_ok-first.rest, (c.in_ok-first.rest, c.in_ok-first.ensures.read, (c.is_before.ensures.none off, refl)), (refl, refl))
 
 pub either-loop-next-init : goal.either-loop-next-init
 either-loop-next-init t c = record {

@@ -1,4 +1,4 @@
-use Rattle.std.proofs.Common.{◌≡◌, suc, sym, ◌-◌, ◌∙◌, inl, inr, subst, arith}
+use Rattle.std.proofs.Common.{◌≡◌, suc, sym, ◌-◌, ◌∙◌, [], refl, inl, inr, subst, arith}
 use Rattle.avp_unlang.specs.declared.text.statements.Keyword.TheVariants as keyword
 use Rattle.avp_unlang.specs.Conditions.{Closed, Within}
 use Rattle.avp_unlang.specs.Forms.{Chain, Gives, While, Refuses}
@@ -73,7 +73,7 @@ branches-loop-next-init t c =
     record {
       front =
           front_one (Follows elsif_word) (BranchIs c.args.profile c.args.dictionary.now c.args.depth (Nested c.args.profile c.args.dictionary.now c.args.depth)) (branch_one c.args.profile c.args.dictionary.now c.args.depth (Nested c.args.profile c.args.dictionary.now c.args.depth) (nested_one c.args.profile c.args.dictionary.now c.args.depth)) c.args.at c.in_ok-first.first c.in_ok-first.rest
-          c.in_ok-first.ensures.read c.new-branches.result.items c.push.new.self.items c.new-branches.ensures.items c.in_ok-push.ensures.items;
+          c.in_ok-first.ensures.read [] c.in_ok-branches.branches.items refl c.in_ok-branches.ensures.items;
       within = c.in_ok-first.ensures.shorter;
       refused = λ left kind h. inr (c.in_ok-first.first, c.in_ok-first.rest, c.in_ok-first.ensures.read, h);
     }
@@ -89,7 +89,7 @@ branches-loop-next-preserved t c =
     record {
       front =
           front_more (Follows elsif_word) (BranchIs c.args.profile c.args.dictionary.now c.args.depth (Nested c.args.profile c.args.dictionary.now c.args.depth)) (follows_sure elsif_word) (branch_one c.args.profile c.args.dictionary.now c.args.depth (Nested c.args.profile c.args.dictionary.now c.args.depth) (nested_one c.args.profile c.args.dictionary.now c.args.depth)) c.args.at c.loop-next.branches.items c.loop-next.rest
-          c.in-Some.next c.in_ok-branch.branch c.in_ok-branch.end c.loop-next.invariant.front c.in-Some.ensures.found c.in_ok-branch.ensures.read c.push-in-Some.new.self.items c.in_ok-push-2.ensures.items;
+          c.in-Some.next c.in_ok-branch.branch c.in_ok-branch.end c.loop-next.invariant.front c.in-Some.ensures.found c.in_ok-branch.ensures.read c.push.new.self.items c.in_ok-push.ensures.items;
       within = omega (arith, c.in-Some.ensures.shorter, c.in_ok-branch.ensures.shorter, c.loop-next.invariant.within);
       refused = λ left kind h. c.loop-next.invariant.refused left kind (OthersFails.later c.in-Some.next c.in_ok-branch.branch c.in_ok-branch.end c.in-Some.ensures.found c.in_ok-branch.ensures.read h);
     }
