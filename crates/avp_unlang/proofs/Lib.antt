@@ -19,6 +19,7 @@ pub mod MovedGroups
 pub mod PairsRead
 pub mod PartsOne
 pub mod PatternFree
+pub mod PlainFitting
 pub mod PlainOctets
 pub mod PlainPatterns
 pub mod PolicyPasses

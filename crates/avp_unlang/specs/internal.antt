@@ -1,6 +1,7 @@
 pub mod CaptureRoom
 pub mod Cursors
 pub mod Depth
+pub mod Fitting
 pub mod LeftTokens
 pub mod MovedGroups
 pub mod SpelledOctets

@@ -155,11 +155,11 @@ pub(crate) fn front(text: &[u8]) -> Option<(u8, &[u8])>
 fn is_in_word(octet: u8, after: &[u8]) -> bool
     ensures { result ≡ is_in_word octet after.now }
 {
-    if octet.is_ascii_alphanumeric() {
+    if octet.is_ascii_alphabetic() {
         return true;
     }
     match octet {
-        b'_' | b'.' | b'/' | b'@' => true,
+        b'0'..=b'9' | b'_' | b'.' | b'/' | b'@' => true,
         b'-' | b':' => after.first() != Some(&b'='),
         _ => false,
     }

@@ -8,6 +8,7 @@ ghost use Rattle.avp_unlang.specs.RefusedForms.{Tells};
 ghost use Rattle.avp_unlang.specs.RefusedValues.{IsValueRefused, WrittenFails, literal_refusal, value_kind, value_place};
 ghost use Rattle.avp_unlang.specs.Values.{WrittenIs, literal};
 ghost use Rattle.avp_unlang.specs.declared.faults.PolicyKind.TheVariants.{Memory};
+ghost use Rattle.avp_unlang.specs.internal.Fitting.{AlwaysFits};
 
 use crate::faults::{PolicyKind, Position, Refusal, refused_at};
 use crate::text::cursors::{Cursor, Read};
@@ -15,7 +16,7 @@ use crate::text::references::{Reference, alike};
 use crate::text::tokens::{Excerpt, Sign, Token};
 use avp_dict::{Dictionary, QuoteMark, ValueFault, octets_between};
 use avp_forms::{Profile, Target, value_written};
-use avp_lists::{Pair, Value};
+use avp_lists::{AttrId, Pair, Value};
 use std::alloc::Global;
 
 /// A value as it is written for an attribute.
@@ -51,6 +52,21 @@ fn value_refusal(fault: ValueFault, positions: ValuePositions) -> Refusal
     }
 }
 
+// Whether every value that texts spell under a name fits: a plain policy's are spelled by type, and an attribute of no
+// vendor and of no extended type is known.
+#[tactic(auto, using(crate::proofs::PlainFitting::plain_fits))]
+fn always_fits(profile: Profile, target: Target) -> bool
+    ensures { IsTrue result → AlwaysFits profile target }
+{
+    match profile {
+        Profile::Wider => false,
+        Profile::Plain => match target.named.id {
+            AttrId::Plain(_) => true,
+            _ => false,
+        },
+    }
+}
+
 /// The value that a text stands for under a name.
 #[tactic(auto, unfolding(crate::specs::Values::literal, crate::specs::RefusedValues::literal_refusal))]
 pub(crate) fn literal(
@@ -71,6 +87,9 @@ pub(crate) fn literal(
 {
     match value_written(alloc, dictionary, profile, target, None, text) {
         Ok(value) => {
+            if always_fits(profile, target) {
+                return Ok(value);
+            }
             let pair = Pair {
                 id: target.named.id,
                 value,
