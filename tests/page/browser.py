@@ -8,6 +8,8 @@ from contextlib import contextmanager
 from pathlib import Path
 from typing import Any, Dict, Iterator, List, Optional
 
+from common.sessions import end_session
+
 NAMES = ("chromium", "chromium-browser", "google-chrome")
 WORDS = ("--headless", "--no-sandbox", "--disable-gpu", "--disable-dev-shm-usage", "--remote-debugging-pipe")
 
@@ -115,4 +117,5 @@ def new_browser(program: str, folder: Path) -> Iterator[Browser]:
     finally:
         process.terminate()
         process.wait()
+        end_session(process.pid, folder)
         os.close(asks_write)
