@@ -54,15 +54,15 @@ def free_port() -> int:
 
 
 @contextmanager
-def started(place: Place, *command: object) -> Iterator["subprocess.Popen[bytes]"]:
-    """Ended with the processes that it begins, and with those that work in the place."""
+def started(*command: object) -> Iterator["subprocess.Popen[bytes]"]:
+    """Ended with the processes that it begins."""
     quiet = {"stdout": subprocess.DEVNULL, "stderr": subprocess.DEVNULL}
     with subprocess.Popen(list(map(str, command)), start_new_session=True, **quiet) as process:
         try:
             yield process
         finally:
             process.kill()
-            end_session(process.pid, place.folder)
+            end_session(process.pid)
 
 
 def spread(place: Place, scheduler: str, files: Sequence[str], command: Sequence[object]) -> "subprocess.Popen[bytes]":
@@ -96,8 +96,8 @@ def check_dask(place: Place, whole: Ended, report: Report) -> None:
     port = free_port()
     scheduler = f"tcp://127.0.0.1:{port}"
     worker = ["dask-worker", scheduler, "--nthreads", 1, "--no-dashboard", "--local-directory", place.folder / "work"]
-    with started(place, "dask-scheduler", "--host", "127.0.0.1", "--port", port, "--no-dashboard"):
-        with started(place, *worker), started(place, *worker), started(place, *worker) as last:
+    with started("dask-scheduler", "--host", "127.0.0.1", "--port", port, "--no-dashboard"):
+        with started(*worker), started(*worker), started(*worker) as last:
             with spread(place, scheduler, ["records"], place.command()) as process:
                 out, errors = process.communicate(timeout=SECONDS)
             said = subprocess.CompletedProcess([], process.returncode, out, errors)
