@@ -108,7 +108,7 @@ def new_browser(program: str, folder: Path) -> Iterator[Browser]:
         close_fds=False,
         preexec_fn=prepare,
         start_new_session=True,
-        env={**os.environ, "HOME": str(folder)},
+        env={**os.environ, "HOME": str(folder), "TMPDIR": str(folder)},
     )
     os.close(asks_read)
     os.close(answers_write)
