@@ -23,7 +23,22 @@ pub fn read_input<R: Read + Drop>(alloc: Global, reader: R) -> io::Result<Option
     ensures all { IfOk result (λ input. IfSome (R.remaining reader) (λ octets.
         MatchOption input (MAX_INPUT_OCTETS < length octets) (λ read. read ≡ octets))) }
 {
-    let mut octets = Vec::new(alloc);
+    read_input_with_room(alloc, reader, 0)
+}
+
+/// The same, with room made first for so many octets, as a file's size says. Reading goes on to the end, whatever the
+/// room is.
+pub fn read_input_with_room<R: Read + Drop>(
+    alloc: Global,
+    reader: R,
+    room: usize,
+) -> io::Result<Option<Octets>>
+    ensures within { IfOk result (λ input.
+        IfSome input (λ octets. length octets ≤ MAX_INPUT_OCTETS)) }
+    ensures all { IfOk result (λ input. IfSome (R.remaining reader) (λ octets.
+        MatchOption input (MAX_INPUT_OCTETS < length octets) (λ read. read ≡ octets))) }
+{
+    let mut octets = Vec::with_capacity(alloc, room)?;
     let count = reader
         .take(MAX_INPUT_OCTETS as u64 + 1)
         .read_to_end(&mut octets)?;

@@ -26,7 +26,7 @@ pub use command_line::{help_text, option_text, read_words};
 pub use fault_lines::print_fault;
 pub use faults::{Fault, status};
 pub use heads::{RequestHead, RequestKind};
-pub use inputs::{MAX_INPUT_OCTETS, read_input};
+pub use inputs::{MAX_INPUT_OCTETS, read_input, read_input_with_room};
 pub use jobs::{Command, Form, Job, Outcome};
 pub use outputs::{Output, OutputError, WriteOutput, put_all};
 pub use plans::Plan;

@@ -12,11 +12,11 @@ ghost use Rattle.radpolicy_common.specs.declared.files.Unread.TheVariants as why
 use crate::inputs::Inputs;
 use avp_dict::{FileSet, NamedFile};
 use avp_lists::Octets;
-use radpolicy::{Fault, MAX_INPUT_OCTETS, read_input};
+use radpolicy::{Fault, MAX_INPUT_OCTETS, read_input, read_input_with_room};
 use std::alloc::{AllocError, AllocFailed, Global};
 use std::fs::File;
 use std::io;
-use std::io::{Read, Seek, SeekFrom};
+use std::io::{Seek, SeekFrom};
 
 /// Why files were not all read.
 #[derive(Clone, Copy, Debug, Drop, PartialEq, Eq)]
@@ -88,17 +88,9 @@ fn room_for(file: &mut File) -> io::Result<usize> {
     }
 }
 
-// The octets of a file, or none where it has more than an input file may have.
 fn octets_in(alloc: Global, mut file: File) -> io::Result<Option<Octets>> {
-    let mut octets = Vec::with_capacity(alloc, room_for(&mut file)?)?;
-    let count = file
-        .take(MAX_INPUT_OCTETS as u64 + 1)
-        .read_to_end(&mut octets)?;
-    if count <= MAX_INPUT_OCTETS {
-        Ok(Some(Octets::from_vec(octets)))
-    } else {
-        Ok(None)
-    }
+    let room = room_for(&mut file)?;
+    read_input_with_room(alloc, file, room)
 }
 
 /// What a file holds, at most 16,777,216 octets.
