@@ -35,6 +35,7 @@ use avp_lists::{AttrId, Value};
 use std::alloc::Global;
 
 #[tactic(auto, unfolding(crate::specs::Conditions::relation_of))]
+#[inline(always)]
 fn relation_of(token: &Token) -> Option<Relation>
     ensures { result ≡ relation_of token.now }
 {
@@ -330,6 +331,7 @@ fn is_text_beside(profile: Profile, token: &Token) -> bool
 }
 
 // The comparison of a reference, which begins here: what follows the operator.
+#[inline(always)]
 fn related<'a>(
     alloc: Global,
     profile: Profile,
@@ -367,6 +369,7 @@ fn present_of(dictionary: &Dictionary, found: Reference) -> Cond
 }
 
 // What follows a reference that begins here: nothing of the operand, or a comparison.
+#[inline(always)]
 fn compared<'a>(
     alloc: Global,
     profile: Profile,
@@ -398,6 +401,7 @@ fn compared<'a>(
 }
 
 // The operand after an `&`.
+#[inline(always)]
 fn referred_operand<'a>(
     alloc: Global,
     profile: Profile,
@@ -413,6 +417,7 @@ fn referred_operand<'a>(
 }
 
 // The operand of a word, which begins here and is the token before this place.
+#[inline(always)]
 fn worded_operand<'a>(
     alloc: Global,
     profile: Profile,
@@ -594,6 +599,7 @@ fn any_of(conds: Vec<Cond>) -> Cond
 
 /// An operand. At most `depth` signs are nested in it.
 #[cycle(conditions)]
+#[inline(always)]
 fn operand<'a>(
     alloc: Global,
     profile: Profile,
@@ -647,6 +653,7 @@ fn negated<'a>(
 /// The condition after a `(`, which begins here and is the token before this place, and the `)`. At most `depth` signs
 /// are nested, the `(` counted.
 #[cycle(conditions)]
+#[inline(always)]
 pub(crate) fn closed<'a>(
     alloc: Global,
     profile: Profile,
@@ -671,6 +678,7 @@ pub(crate) fn closed<'a>(
 
 // Operands with `&&` between them.
 #[cycle(conditions)]
+#[inline(always)]
 fn both<'a>(
     alloc: Global,
     profile: Profile,
@@ -699,6 +707,7 @@ fn both<'a>(
 
 // Operands with `&&`, and `||` between these.
 #[cycle(conditions)]
+#[inline(always)]
 fn either<'a>(
     alloc: Global,
     profile: Profile,

@@ -136,6 +136,7 @@ impl<'a> Cursor<'a> {
 
     /// The same place after so much is added to the size; none where that is too much.
     #[tactic(auto, unfolding(crate::specs::Places::counted))]
+    #[inline(always)]
     fn counted(self, count: usize) -> Option<Cursor<'a>>
         ensures value { result ≡ counted count self.entry }
         ensures same { IfSome result (λ start. start.text ≡ self.entry.text) }
@@ -148,6 +149,7 @@ impl<'a> Cursor<'a> {
     }
 
     /// The same place after so much is added to the size. A refusal is at this token.
+    #[inline(always)]
     pub(crate) fn count(self, count: usize, token: Position) -> Result<Cursor<'a>, Refusal>
         ensures taken { Takes (Counts count self.entry) result }
         ensures refused { IfErr result (Tells (Lacks count token.left self.entry)) }
@@ -185,6 +187,7 @@ impl<'a> Cursor<'a> {
 
     /// The place after the next token. It finds the token that follows.
     #[tactic(auto, unfolding(crate::specs::Tokens::next_token))]
+    #[inline(always)]
     pub(crate) fn after(&self) -> Cursor<'a>
         ensures follows { Follows (next_token self.now).0 self.now result }
         ensures within { length result.text ≤ length self.now.text }
@@ -205,6 +208,7 @@ impl<'a> Cursor<'a> {
     }
 
     /// Whether this operator or bracket comes next.
+    #[inline(always)]
     pub(crate) fn is_before(&self, sign: Sign) -> bool
         ensures none { IsFalse result → (rest : Place) → Follows (Operator sign) self.now rest → ⊥ }
     {
@@ -212,6 +216,7 @@ impl<'a> Cursor<'a> {
     }
 
     /// The place after this operator or bracket, if it comes next.
+    #[inline(always)]
     pub(crate) fn after_sign(&self, sign: Sign) -> Option<Cursor<'a>>
         ensures found { IfSome result (Follows (Operator sign) self.now) }
         ensures none { IfNone result ((rest : Place) → Follows (Operator sign) self.now rest → ⊥) }
@@ -224,6 +229,7 @@ impl<'a> Cursor<'a> {
     }
 
     /// The place after this word, if it comes next.
+    #[inline(always)]
     pub(crate) fn after_word(&self, word: &[u8]) -> Option<Cursor<'a>>
         ensures found { IfSome result (Follows (Word word.now) self.now) }
         ensures none { IfNone result ((rest : Place) → Follows (Word word.now) self.now rest → ⊥) }
@@ -236,6 +242,7 @@ impl<'a> Cursor<'a> {
     }
 
     /// The place after this operator or bracket, which has to come next.
+    #[inline(always)]
     pub(crate) fn expect(self, sign: Sign) -> Result<Cursor<'a>, Refusal>
         ensures taken { Takes (Follows (Operator sign) self.entry) result }
         ensures refused { IfErr result (Tells (Misses (Operator sign) self.entry)) }
@@ -248,6 +255,7 @@ impl<'a> Cursor<'a> {
     }
 
     /// The refusal of a next token that does not fit.
+    #[inline(always)]
     pub(crate) fn unfit(&self) -> Refusal
         ensures { Unfit self.now result.left result.kind }
     {
@@ -259,6 +267,7 @@ impl<'a> Cursor<'a> {
     }
 
     /// The refusal of the next token for this kind.
+    #[inline(always)]
     pub(crate) fn refused(&self, kind: PolicyKind) -> Refusal
         ensures kind { result.kind ≡ kind }
         ensures place { result.left ≡ left_at self.now }

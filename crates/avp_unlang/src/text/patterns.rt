@@ -58,6 +58,7 @@ fn pattern_refusal(fault: PatternFault, position: Position) -> Refusal
     }
 }
 
+#[inline(always)]
 pub(crate) fn matcher_in<'a>(profile: Profile, token: &Token<'a>) -> Option<Matcher<'a>>
     ensures { result ≡ matcher_in profile token.now }
 {

@@ -21,6 +21,7 @@ pub(crate) struct Reference {
 }
 
 #[tactic(auto, unfolding(crate::specs::References::list_named))]
+#[inline(always)]
 pub(crate) fn list_named(word: &[u8]) -> Option<List>
     ensures { result ≡ list_named word.now }
 {
@@ -37,6 +38,7 @@ pub(crate) fn list_named(word: &[u8]) -> Option<List>
 
 // The list and the name of a word; a name alone is of the list at hand.
 #[tactic(auto, unfolding(crate::specs::References::target_in))]
+#[inline(always)]
 fn target_in(own: List, word: &[u8]) -> (List, &[u8])
     ensures { (result.0, result.1.now) ≡ target_in own word.now }
 {
@@ -53,6 +55,7 @@ fn target_in(own: List, word: &[u8]) -> (List, &[u8])
 
 /// What a word refers to; a name alone is of the list at hand.
 #[tactic(auto, unfolding(crate::specs::References::reference_in))]
+#[inline(always)]
 pub(crate) fn reference_in(
     profile: Profile,
     dictionary: &Dictionary,
@@ -68,6 +71,7 @@ pub(crate) fn reference_in(
 
 /// What a word refers to, where its values may be looked at; a name alone is of the request.
 #[tactic(auto, unfolding(crate::specs::References::readable, crate::specs::RefusedValues::reference_refusal))]
+#[inline(always)]
 pub(crate) fn readable(
     profile: Profile,
     dictionary: &Dictionary,
@@ -91,6 +95,7 @@ pub(crate) fn readable(
 }
 
 /// The reference after an `&`.
+#[inline(always)]
 pub(crate) fn referred<'a>(
     profile: Profile,
     dictionary: &Dictionary,

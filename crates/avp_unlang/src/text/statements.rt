@@ -34,6 +34,7 @@ pub(crate) enum Keyword {
 }
 
 #[tactic(auto, unfolding(crate::specs::Statements::keyword_named))]
+#[inline(always)]
 fn keyword_named(word: &[u8]) -> Keyword
     ensures { result ≡ keyword_named word.now }
 {
@@ -51,6 +52,7 @@ fn keyword_named(word: &[u8]) -> Keyword
     }
 }
 
+#[inline(always)]
 fn keyword_in(token: &Token) -> Keyword
     ensures { result ≡ keyword_in token.now }
 {
@@ -60,6 +62,7 @@ fn keyword_in(token: &Token) -> Keyword
     }
 }
 
+#[inline(always)]
 fn begins_word(at: &Cursor) -> bool
     ensures { result ≡ begins_word at.now }
 {
@@ -125,6 +128,7 @@ fn update<'a>(
 }
 
 // A code, which begins here and is the token before this place.
+#[inline(always)]
 fn word<'a>(code: Code, begin: Position, at: Cursor<'a>) -> Read<'a, Statement>
     ensures read { Reads (WordOn code at.entry.line at.entry) result }
     ensures refused { IfErr result (Tells (Lacks 1 begin.left at.entry)) }
@@ -137,6 +141,7 @@ fn word<'a>(code: Code, begin: Position, at: Cursor<'a>) -> Read<'a, Statement>
 
 /// A statement. At most `depth` signs are nested in it.
 #[cycle(statements)]
+#[inline(always)]
 fn statement<'a>(
     alloc: Global,
     profile: Profile,
@@ -185,6 +190,7 @@ fn transaction<'a>(
 
 // What follows the word `if`, which begins here and is the token before this place.
 #[cycle(statements)]
+#[inline(always)]
 fn conditional<'a>(
     alloc: Global,
     profile: Profile,
@@ -207,6 +213,7 @@ fn conditional<'a>(
 
 // The branch of an `if`, which begins here, and those of each `elsif` after it.
 #[cycle(statements)]
+#[inline(always)]
 fn branches<'a>(
     alloc: Global,
     profile: Profile,
@@ -234,6 +241,7 @@ fn branches<'a>(
 
 // A condition in brackets and a block; the word before them begins here and is the token before this place.
 #[cycle(statements)]
+#[inline(always)]
 fn branch<'a>(
     alloc: Global,
     profile: Profile,
@@ -260,6 +268,7 @@ fn branch<'a>(
 
 // `else` and its block, if it comes next.
 #[cycle(statements)]
+#[inline(always)]
 fn otherwise<'a>(
     alloc: Global,
     profile: Profile,
