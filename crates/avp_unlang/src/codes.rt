@@ -16,17 +16,13 @@ pub enum Code {
 pub(crate) fn code_named(word: &[u8]) -> Option<Code>
     ensures { result ≡ code_named word.now }
 {
-    if word == b"ok".as_slice() {
-        Some(Code::Ok)
-    } else if word == b"noop".as_slice() {
-        Some(Code::Noop)
-    } else if word == b"updated".as_slice() {
-        Some(Code::Updated)
-    } else if word == b"fail".as_slice() {
-        Some(Code::Fail)
-    } else if word == b"reject".as_slice() {
-        Some(Code::Reject)
-    } else {
-        None
+    // The short ones are most frequent, and compared in place.
+    match word {
+        b"ok" => Some(Code::Ok),
+        b"noop" => Some(Code::Noop),
+        b"fail" => Some(Code::Fail),
+        _ if word == b"updated".as_slice() => Some(Code::Updated),
+        _ if word == b"reject".as_slice() => Some(Code::Reject),
+        _ => None,
     }
 }

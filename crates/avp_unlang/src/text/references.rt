@@ -1,6 +1,7 @@
 //! What words refer to.
 
-ghost use Rattle.std.specs.Prelude.{◌≡◌, ◌<◌, length, Some, None, IfErr, IfOk, OnErr};
+ghost use Rattle.std.specs.Prelude.{◌≡◌, ◌<◌, ◌∷◌, ℕ, List as TheList, length, Some, None, IfErr, IfOk, IsTrue, OnErr};
+ghost use Rattle.avp_lists.specs.declared.lists.List.{List as Name};
 ghost use Rattle.avp_unlang.specs.Forms.{Reads};
 ghost use Rattle.avp_unlang.specs.RefusedForms.{Tells};
 ghost use Rattle.avp_unlang.specs.RefusedValues.{AlikeFails, ReadableFails, reference_refusal};
@@ -8,7 +9,7 @@ ghost use Rattle.avp_unlang.specs.References.{AlikeIs, ReadableIs, list_named, r
 
 use crate::faults::PolicyKind;
 use crate::text::cursors::{Cursor, Read};
-use crate::text::tokens::Token;
+use crate::text::tokens::{Token, front};
 use avp_dict::{Dictionary, Kind, is_container};
 use avp_forms::{Profile, Target, target_of};
 use avp_lists::{AttrId, List};
@@ -36,10 +37,19 @@ pub(crate) fn list_named(word: &[u8]) -> Option<List>
     }
 }
 
-// The list and the name of a word; a name alone is of the list at hand.
-#[tactic(auto, unfolding(crate::specs::References::target_in))]
+// Whether the name of no list begins with this octet.
 #[inline(always)]
-fn target_in(own: List, word: &[u8]) -> (List, &[u8])
+#[tactic(auto, unfolding(crate::specs::References::target_in))]
+fn begins_no_list(octet: u8) -> bool
+    ensures { IsTrue result → (own : Name) (rest : TheList ℕ)
+        → target_in own (octet ∷ rest) ≡ (own, octet ∷ rest) }
+{
+    !matches!(octet, b'r' | b'c')
+}
+
+// The list and the name of a word that may begin with a list's.
+#[tactic(auto, unfolding(crate::specs::References::target_in))]
+fn listed_in(own: List, word: &[u8]) -> (List, &[u8])
     ensures { (result.0, result.1.now) ≡ target_in own word.now }
 {
     if let Some(name) = word.strip_prefix(b"request:") {
@@ -50,6 +60,17 @@ fn target_in(own: List, word: &[u8]) -> (List, &[u8])
         (List::Control, name)
     } else {
         (own, word)
+    }
+}
+
+// The list and the name of a word; a name alone is of the list at hand.
+#[inline(always)]
+fn target_in(own: List, word: &[u8]) -> (List, &[u8])
+    ensures { (result.0, result.1.now) ≡ target_in own word.now }
+{
+    match front(word) {
+        Some((first, _)) if begins_no_list(first) => (own, word),
+        _ => listed_in(own, word),
     }
 }
 

@@ -38,17 +38,14 @@ pub(crate) enum Keyword {
 fn keyword_named(word: &[u8]) -> Keyword
     ensures { result ≡ keyword_named word.now }
 {
-    if word == b"update".as_slice() {
-        Keyword::Update
-    } else if word == b"if".as_slice() {
-        Keyword::If
-    } else if word == b"transaction".as_slice() {
-        Keyword::Transaction
-    } else {
-        match code_named(word) {
+    match word {
+        b"if" => Keyword::If,
+        _ if word == b"update".as_slice() => Keyword::Update,
+        _ if word == b"transaction".as_slice() => Keyword::Transaction,
+        _ => match code_named(word) {
             None => Keyword::Other,
             Some(code) => Keyword::Code(code),
-        }
+        },
     }
 }
 
