@@ -114,6 +114,7 @@ fn plain_literal(
 }
 
 // What an attribute is compared with.
+#[inline(always)]
 fn comparand_of(
     alloc: Global,
     profile: Profile,

@@ -69,6 +69,7 @@ fn always_fits(profile: Profile, target: Target) -> bool
 
 /// The value that a text stands for under a name.
 #[tactic(auto, unfolding(crate::specs::Values::literal, crate::specs::RefusedValues::literal_refusal))]
+#[inline(always)]
 pub(crate) fn literal(
     alloc: Global,
     profile: Profile,
@@ -138,6 +139,7 @@ pub(crate) fn quoted_literal(
 }
 
 /// What is written for the attribute of a name, which begins here.
+#[inline(always)]
 pub(crate) fn written_value<'a>(
     alloc: Global,
     profile: Profile,
