@@ -1,11 +1,11 @@
 -- From the marks of sixteen octets to the octets that pass a test.
-use Rattle.std.proofs.Common.{eqb, inl, inr, sym, zero, suc, get_or, Fits, ◌*◌, ◌&&◌, ap₂, ◌≡◌, ℕ, ◌+◌, ◌≤◌, ◌^◌, ◌%◌, Bool, true, false, not, cond, List, [], ◌∷◌, map, replicate, length, take, drop, refl, ap, ◌∙◌, arith, one-add}
-use Rattle.std.proofs.lemmas.Bool.{agree_below, agree_below_at, cases_eq, ne_eqb}
+use Rattle.std.proofs.Common.{eqb, inl, inr, sym, zero, suc, get_or, Fits, ◌*◌, ◌&&◌, ap₂, ◌≡◌, ℕ, ◌+◌, ◌≤◌, ◌^◌, ◌%◌, Bool, true, false, not, cond, List, [], ◌∷◌, ◌++◌, map, replicate, length, take, drop, refl, ap, ◌∙◌, arith, one-add}
+use Rattle.std.proofs.lemmas.Bool.{agree_below, agree_below_at, cases_eq, eqb-true, ne_eqb}
 use Rattle.std.proofs.lemmas.List.{length-map}
-use Rattle.std.proofs.lemmas.Simd.{bitmask_splat, chunk-fits, first_set_mask_l, length-chunk, map-map, mask_l-mod}
+use Rattle.std.proofs.lemmas.Simd.{bitmask_splat, chunk-fits, first_set_mask_l, length-chunk, map-map, mask_l-mod, put_chunk_is}
 use Rattle.std.specs.List.{list_all, prefix_len}
 use Rattle.std.specs.Int.{w8}
-use lib.Lanes.{Each1, chunk, mask_l, top, zip2}
+use lib.Lanes.{Each1, chunk, mask_l, put_chunk, sel_l, top, zip2}
 use Rattle.avp_dict.specs.internal.Lanes.{first_marked}
 
 -- where a comparison with one octet marks lanes
@@ -65,3 +65,22 @@ none_marked q f text z room fits lanes all =
     let long : length v ≡ 16 = length-chunk 0 16 text (omega arith) in
     let mask = ap (λ l. mask_l l % 2 ^ 64) (ap (map (top 7)) lanes ∙ map-map (top 7) f v) ∙ mask_l-mod (map stops v) 64 (omega (arith, length-map v stops, long)) in
     ap (λ m. eqb m 0) mask ∙ unmarked stops v ∙ agreeing stops q all v (chunk-fits w8 0 16 text fits)
+
+-- lanes of two vectors, each computed from vs, by marks that are computed from vs
+selected : (m : ℕ → Bool) (f : ℕ → ℕ) (vs : List ℕ) → sel_l (map m vs) (map f vs) vs ≡ map (λ x. cond (m x) (f x) x) vs
+selected m f [] = refl
+selected m f (v ∷ vs) = ap (λ l. cond (m v) (f v) v ∷ l) (selected m f vs)
+
+-- lanes that are the same for every octet
+same_lanes : (f g : ℕ → ℕ) → agree_below (λ x. eqb (f x) (g x)) (λ _. true) 256 ≡ true → (octets : List ℕ) → Each1 (Fits w8) octets → map f octets ≡ map g octets
+same_lanes f g all [] fit = refl
+same_lanes f g all (o ∷ os) fit = ap₂ (λ x l. x ∷ l) (eqb-true (f o) (g o) (agree_below_at (λ x. eqb (f x) (g x)) (λ _. true) 256 o all fit.0.fits)) (same_lanes f g all os fit.1)
+
+-- the first sixteen octets of a text, of which those that are marked are put as f has them, if each octet is then as g has it
+pub sixteen_put : (m : ℕ → ℕ) (f g : ℕ → ℕ) (text z others : List ℕ) → 16 ≤ length text → ((k : ℕ) → Fits w8 (get_or text k 0)) → z ≡ map m (chunk 0 16 text) → others ≡ map f (chunk 0 16 text) → agree_below (λ x. eqb (cond (top 7 (m x)) (f x) x) (g x)) (λ _. true) 256 ≡ true → put_chunk 0 text (sel_l (map (top 7) z) others (chunk 0 16 text)) ≡ map g (take 16 text) ++ drop 16 text
+sixteen_put m f g text z others room fits marks puts all =
+    let v = chunk 0 16 text in
+    let long : length v ≡ 16 = length-chunk 0 16 text (omega (arith, room)) in
+    let lanes : sel_l (map (top 7) z) others v ≡ map g v = ap₂ (λ ms fs. sel_l ms fs v) (ap (map (top 7)) marks ∙ map-map (top 7) m v) puts ∙ selected (λ x. top 7 (m x)) f v ∙ same_lanes (λ x. cond (top 7 (m x)) (f x) x) g all v (chunk-fits w8 0 16 text fits) in
+    let many : length (map g v) ≡ 16 = length-map v g ∙ long in
+    ap (put_chunk 0 text) lanes ∙ put_chunk_is 0 text (map g v) (omega (arith, many, room)) ∙ ap (λ n. map g v ++ drop n text) many

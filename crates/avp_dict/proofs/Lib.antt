@@ -10,6 +10,7 @@ pub mod FilledLines
 pub mod FirstPlaces
 pub mod FirstRefusals
 pub mod Fitting
+pub mod FoldedNames
 pub mod Folding
 pub mod FormedTypings
 pub mod FoundPositions

@@ -1,6 +1,7 @@
 //! Sixteen octets at a time.
 
-ghost use Rattle.std.specs.Prelude.{◌≡◌, ◌≤◌, ◌+◌, drop, length};
+ghost use Rattle.std.specs.Prelude.{◌≡◌, ◌≤◌, ◌+◌, ◌++◌, drop, length, map, take};
+ghost use Rattle.avp_dict.specs.Words.{lower};
 ghost use Rattle.avp_dict.specs.internal.Lanes.{first_marked};
 ghost use Rattle.avp_dict.specs.internal.LineWords.{word_size};
 
@@ -29,4 +30,16 @@ pub(crate) fn run_in_word(text: &[u8]) -> usize
     let octets = u8x16::from_slice(text);
     let marks = octets.simd_le(u8x16::splat(b'#')).to_bitmask();
     first_marked(marks)
+}
+
+/// Puts the first sixteen octets of a text into lower case.
+#[inline(always)]
+pub(crate) fn fold_sixteen(text: &mut [u8])
+    requires { LANES ≤ length text.old }
+    ensures { text.new ≡ map lower (take LANES text.old) ++ drop LANES text.old }
+{
+    let octets = u8x16::from_slice(text);
+    let capitals = (octets - u8x16::splat(b'A')).simd_lt(u8x16::splat(26));
+    let folded = capitals.select(octets | u8x16::splat(0x20), octets);
+    folded.copy_to_slice(text);
 }

@@ -1,10 +1,11 @@
 //! Keys of tables: names without regard to case, and ids.
 
-ghost use Rattle.std.specs.Prelude.{◌≡◌, ◌≤◌, ◌<◌, length, map, take, IfOk, IfSome, IfNone};
+ghost use Rattle.std.specs.Prelude.{◌≡◌, ◌≤◌, ◌<◌, ◌++◌, ◌-◌, length, map, replicate, take, IfOk, IfSome, IfNone};
 ghost use Rattle.avp_dict.specs.Letters.{max_name};
 ghost use Rattle.avp_dict.specs.Words.{lower};
 ghost use Rattle.avp_dict.specs.internal.Tables.{id_key};
 
+use crate::file::lanes::{LANES, fold_sixteen};
 use crate::file::words::{MAX_NAME, lower};
 use avp_lists::{AttrId, Octets};
 use std::alloc::{AllocError, Global};
@@ -29,16 +30,28 @@ impl Model for FoldedName {
     ghost invariant = { λ f. f.size ≤ max_name };
 }
 
-// The name in lower case, in the first octets of the buffer.
-fn fold(buffer: &mut [u8; MAX_NAME], name: &[u8])
+// The octets of a name, and zeros after them.
+fn filled(name: &[u8]) -> [u8; MAX_NAME]
     requires { length name.now ≤ max_name }
-    ensures { take (length name.now) buffer.new ≡ map lower name.now }
+    ensures { result ≡ name.now ++ replicate (max_name - length name.now) 0 }
 {
+    let mut octets = [0; MAX_NAME];
+    octets[..name.len()].copy_from_slice(name);
+    octets
+}
+
+// The name in lower case, in the first octets of a buffer, sixteen at a time.
+fn folded(name: &[u8]) -> [u8; MAX_NAME]
+    requires { length name.now ≤ max_name }
+    ensures { take (length name.now) result ≡ map lower name.now }
+{
+    let mut octets = filled(name);
     let mut i = 0;
     while i < name.len() {
-        buffer[i] = lower(name[i]);
-        i += 1;
+        fold_sixteen(&mut octets[i..]);
+        i += LANES;
     }
+    octets
 }
 
 impl FoldedName {
@@ -58,10 +71,8 @@ impl FoldedName {
         requires { length name.now ≤ max_name }
         ensures { result ≡ map lower name.now }
     {
-        let mut octets = [0; MAX_NAME];
-        fold(&mut octets, name);
         FoldedName {
-            octets,
+            octets: folded(name),
             size: name.len(),
         }
     }
