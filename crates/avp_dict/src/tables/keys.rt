@@ -131,14 +131,69 @@ pub fn folded_text(alloc: Global, name: &[u8]) -> Result<Octets, AllocError>
 }
 
 /// An id as a key: its kind, and its numbers.
-pub type IdKey = (u8, (u32, u32));
+#[derive(Drop)]
+pub struct IdKey {
+    kind: u8,
+    first: u32,
+    second: u32,
+}
+
+impl Model for IdKey {
+    ghost use Rattle.std.specs.Prelude.{ℕ};
+
+    ghost Value = { ℕ × (ℕ × ℕ) };
+
+    ghost view = { λ k. (k.kind, (k.first, k.second)) };
+}
+
+impl PartialEq for IdKey {
+    ghost use Rattle.std.proofs.Common.{rules};
+    ghost use Rattle.std.specs.Cmp.Rules.{comparing};
+    ghost use Rattle.avp_dict.specs.internal.Tables.{same_id_key};
+
+    ghost eq = { same_id_key };
+
+    ghost laws = { Prim.search (comparing, rules) };
+
+    fn eq(&self, other: &IdKey) -> bool {
+        self.kind == other.kind && (self.first == other.first && self.second == other.second)
+    }
+}
+
+impl Eq for IdKey {
+    ghost use Rattle.std.proofs.Common.{rules};
+    ghost use Rattle.std.specs.Cmp.Rules.{comparing};
+
+    ghost laws = { Prim.search (comparing, rules) };
+}
+
+// By the numbers alone, in one step: few ids of different kinds have the same.
+impl Hash for IdKey {
+    ghost use Rattle.std.specs.Hash as fed;
+    ghost use Rattle.std.specs.Prelude.{◌+◌, ◌*◌, ◌^◌};
+    ghost use Rattle.std.proofs.Common.{rules};
+    ghost use Rattle.std.specs.Cmp.Rules.{hashing};
+
+    ghost hash_input = { λ k. fed.u64 (k.1.0 * 4294967296 + k.1.1) };
+
+    ghost respects_eq = { Prim.search (hashing, rules) };
+
+    fn hash<H: Hasher>(&self, state: &mut H) {
+        state.write_u64(u64::from(self.first) * 0x1_0000_0000 + u64::from(self.second));
+    }
+}
 
 pub fn id_key(id: AttrId) -> IdKey
     ensures { result ≡ id_key id }
 {
-    match id {
-        AttrId::Plain(number) => (0, (number, 0)),
-        AttrId::Vendor(vendor, number) => (1, (vendor, number)),
-        AttrId::Extended(t, number) => (2, (u32::from(t), u32::from(number))),
+    let (kind, first, second) = match id {
+        AttrId::Plain(number) => (0, number, 0),
+        AttrId::Vendor(vendor, number) => (1, vendor, number),
+        AttrId::Extended(t, number) => (2, u32::from(t), u32::from(number)),
+    };
+    IdKey {
+        kind,
+        first,
+        second,
     }
 }
