@@ -1,6 +1,6 @@
 //! Keys of tables: names without regard to case, and ids.
 
-ghost use Rattle.std.specs.Prelude.{◌≡◌, ◌≤◌, ◌<◌, ◌++◌, ◌-◌, length, map, replicate, take, IfOk, IfSome, IfNone};
+ghost use Rattle.std.specs.Prelude.{◌≡◌, ◌≤◌, ◌<◌, length, map, take, IfOk, IfSome, IfNone};
 ghost use Rattle.avp_dict.specs.Letters.{max_name};
 ghost use Rattle.avp_dict.specs.Words.{lower};
 ghost use Rattle.avp_dict.specs.internal.Tables.{id_key};
@@ -30,22 +30,13 @@ impl Model for FoldedName {
     ghost invariant = { λ f. f.size ≤ max_name };
 }
 
-// The octets of a name, and zeros after them.
-fn filled(name: &[u8]) -> [u8; MAX_NAME]
-    requires { length name.now ≤ max_name }
-    ensures { result ≡ name.now ++ replicate (max_name - length name.now) 0 }
-{
-    let mut octets = [0; MAX_NAME];
-    octets[..name.len()].copy_from_slice(name);
-    octets
-}
-
 // The name in lower case, in the first octets of a buffer, sixteen at a time.
 fn folded(name: &[u8]) -> [u8; MAX_NAME]
     requires { length name.now ≤ max_name }
     ensures { take (length name.now) result ≡ map lower name.now }
 {
-    let mut octets = filled(name);
+    let mut octets = [0; MAX_NAME];
+    octets[..name.len()].copy_from_slice(name);
     let mut i = 0;
     while i < name.len() {
         fold_sixteen(&mut octets[i..]);

@@ -1,8 +1,15 @@
-use Rattle.std.proofs.Common.{ℕ, ◌≡◌, ◌-◌, ◌≤◌, ◌++◌, length, replicate, ◌+◌, arith}
-use Rattle.std.proofs.lemmas.List.{length-append}
+use Rattle.std.proofs.Common.{ℕ, ◌≡◌, ◌-◌, ◌≤◌, ◌++◌, length, replicate, ap₂, refl, ◌+◌, arith}
+use Rattle.std.proofs.lemmas.List.{drop-replicate, length-append}
 use Rattle.std.proofs.lemmas.Simd.{length-replicate}
 use Rattle.avp_dict.proofs.FoldedNames.{folded_more, folded_name}
 use Rattle.avp_dict.proofs.tables.keys.folded.Goals as goal
+
+pub loop-i-init : goal.loop-i-init
+loop-i-init c = record {
+  whole = refl;
+  within = omega arith;
+  done = ap₂ (λ name after. name ++ after) c.copy_from_slice.ensures.after (drop-replicate (length c.args.name.now) 128 0);
+}
 
 pub loop-i-preserved : goal.loop-i-preserved
 loop-i-preserved c =
