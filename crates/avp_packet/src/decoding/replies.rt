@@ -132,6 +132,8 @@ pub fn decode_reply(
         dictionary,
         secret,
         authenticator: &hiding_authenticator(octets[0], request_authenticator),
+        last_id: None,
+        last_vendor: None,
     };
     Ok(read_packet(alloc, &keys, octets, count)?)
 }

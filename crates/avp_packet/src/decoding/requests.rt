@@ -108,6 +108,8 @@ pub fn decode(
         dictionary,
         secret,
         authenticator: &hiding_authenticator(octets[0], &copy_authenticator(octets)),
+        last_id: None,
+        last_vendor: None,
     };
     Ok(read_packet(alloc, &keys, octets, count)?)
 }

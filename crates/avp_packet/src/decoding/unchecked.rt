@@ -62,6 +62,8 @@ fn unchecked_where(
         dictionary,
         secret: &[],
         authenticator: &ZEROS,
+        last_id: None,
+        last_vendor: None,
     };
     Ok(read_packet(alloc, &keys, octets, count)?)
 }

@@ -10,8 +10,9 @@ ghost use Rattle.avp_packet.specs.internal.Holding.{CanHold, FitsFormat};
 
 use crate::attribute::numbers::{LONG_EXTENDED_TYPE_1, MORE_FLAG, PIECE_OCTETS, VENDOR_SPECIFIC};
 use crate::attribute::splitting::ATTRIBUTE_HEAD_OCTETS;
-use crate::attribute::subattributes::{VENDOR_ID_OCTETS, known_format};
-use avp_dict::{Dictionary, Format};
+use crate::attribute::subattributes::VENDOR_ID_OCTETS;
+use crate::keys::Keys;
+use avp_dict::Format;
 use avp_lists::AttrId;
 use std::alloc::AllocError;
 
@@ -154,17 +155,17 @@ fn push_vendor(
 #[tactic(auto, unfolding(crate::specs::AttributeOctets::parts_holding))]
 pub(crate) fn push_holding(
     octets: &mut Vec<u8>,
-    dictionary: &Dictionary,
+    keys: &Keys<'_>,
     id: AttrId,
     value: &[u8],
 ) -> Result<(), AllocError>
-    requires { CanHold dictionary.now id value.now }
+    requires { CanHold keys.now.dictionary.now id value.now }
     ensures { OnOk result (octets.new.items ≡ octets.old.items
-        ++ flat_map part_octets (parts_holding dictionary.now id value.now)) }
+        ++ flat_map part_octets (parts_holding keys.now.dictionary.now id value.now)) }
 {
     match id {
         AttrId::Plain(number) => push_attribute(octets, number as u8, value),
-        AttrId::Vendor(vendor, number) => match known_format(dictionary, vendor) {
+        AttrId::Vendor(vendor, number) => match keys.format(vendor) {
             Some(format) => push_vendor(octets, format, vendor, number, value),
             None => Ok(()),
         },

@@ -15,7 +15,7 @@ use crate::attribute::splitting::ATTRIBUTE_HEAD_OCTETS;
 use crate::attribute::subattributes::{VENDOR_ID_OCTETS, known_format};
 use crate::authenticators::{MAX_ATTRIBUTES_OCTETS, MAX_PACKET_OCTETS};
 use crate::encoding::dividing::Division;
-use crate::encoding::pairs::{is_internal, is_kept, octets_of, value_typing};
+use crate::encoding::pairs::{is_internal, is_kept, octets_of};
 use crate::hiding::hidden_length;
 use crate::hmac::SIGNATURE_OCTETS;
 use crate::keys::{Keys, hiding_authenticator};
@@ -28,7 +28,7 @@ fn sent_length(keys: &Keys<'_>, pair: &Pair) -> usize
     requires { fits pair.now keys.now.dictionary.now ≡ true }
     ensures { result ≡ length (under keys.now sent_octets pair.now) }
 {
-    let typing = value_typing(keys.dictionary, pair.id);
+    let typing = keys.typing(pair.id);
     let mut buffer = [0; 8];
     let plain = octets_of(typing.kind, &pair.value, &mut buffer).len();
     if typing.hidden && !matches!(pair.value, Value::Raw(_)) {
@@ -161,8 +161,11 @@ pub(crate) fn is_too_long(
         division.now proxy_states.now zeros) ≤ MAX_ATTRIBUTES_OCTETS }
 {
     let hiding = Keys {
+        dictionary: keys.dictionary,
+        secret: keys.secret,
         authenticator: &hiding_authenticator(code, keys.authenticator),
-        ..*keys
+        last_id: None,
+        last_vendor: None,
     };
     room_left(&hiding, division, proxy_states).is_none()
 }

@@ -119,8 +119,11 @@ fn write_packet(
         division.now proxy_states.now zeros) }
 {
     let hiding = Keys {
+        dictionary: keys.dictionary,
+        secret: keys.secret,
         authenticator: &hiding_authenticator(code, keys.authenticator),
-        ..*keys
+        last_id: None,
+        last_vendor: None,
     };
     let mut octets = packet_head(alloc, code, id, keys.authenticator)?;
     let place = write_attributes(&mut octets, &hiding, division, proxy_states)?;
@@ -267,6 +270,8 @@ pub fn encode_request(
         dictionary,
         secret,
         authenticator,
+        last_id: None,
+        last_vendor: None,
     };
     let mut octets = signed_packet(alloc, &keys, code, id, &division, &[])?;
     fill_request_authenticator(&mut octets, code, secret);
@@ -376,6 +381,8 @@ pub fn encode_reply(
         dictionary,
         secret,
         authenticator: request_authenticator,
+        last_id: None,
+        last_vendor: None,
     };
     let mut octets = signed_packet(alloc, &keys, code, id, &division, proxy_states)?;
     let digest = digest_under(&octets, secret);

@@ -3,7 +3,7 @@
 ghost use Rattle.std.specs.Prelude.{◌≡◌, ◌≤◌, ◌<◌, ◌+◌, ◌∷◌, ◌++◌, ℕ, List, [], true, false, length, All, OnOk, IfOk, IfSome, IsTrue, Err};
 ghost use Rattle.avp_dict.specs.Limits.{fits};
 ghost use Rattle.std.specs.Cow.{cow_slice_items};
-ghost use Rattle.avp_dict.specs.Octets.{is_hidden, kind_of, number_octets, octets_of};
+ghost use Rattle.avp_dict.specs.Octets.{number_octets, octets_of};
 ghost use Rattle.avp_dict.specs.Sent.{is_internal};
 ghost use Rattle.avp_packet.specs.AttributeOctets.{attribute_octets, sent_octets};
 ghost use Rattle.avp_packet.specs.Packets.{zeros};
@@ -18,7 +18,7 @@ use crate::encoding::dividing::{Division, MESSAGE_AUTHENTICATOR_ID};
 use crate::faults::EncodeFault;
 use crate::hiding::hidden;
 use crate::keys::Keys;
-use avp_dict::{Dictionary, Kind};
+use avp_dict::Kind;
 use avp_lists::{AttrId, Pair, Value};
 use std::alloc::{AllocError, Global};
 use std::borrow::CowSlice;
@@ -32,29 +32,6 @@ pub(crate) fn is_internal(id: AttrId) -> bool
         AttrId::Plain(number) => number > 255,
         AttrId::Vendor(_, _) => false,
         AttrId::Extended(_, _) => false,
-    }
-}
-
-/// The type of an id's values, and whether they are hidden.
-#[derive(Clone, Copy)]
-pub(crate) struct ValueTyping {
-    pub kind: Option<Kind>,
-    pub hidden: bool,
-}
-
-pub(crate) fn value_typing(dictionary: &Dictionary, id: AttrId) -> ValueTyping
-    ensures kind { result.kind ≡ kind_of id dictionary.now }
-    ensures hidden { result.hidden ≡ is_hidden id dictionary.now }
-{
-    match dictionary.by_id(id) {
-        Some(entry) => ValueTyping {
-            kind: Some(entry.kind),
-            hidden: entry.hidden,
-        },
-        None => ValueTyping {
-            kind: None,
-            hidden: false,
-        },
     }
 }
 
@@ -102,7 +79,7 @@ fn sent_octets<'a>(
     ensures { IfOk result (λ octets. cow_slice_items octets
         ≡ under keys.now sent_octets pair.now) }
 {
-    let typing = value_typing(keys.dictionary, pair.id);
+    let typing = keys.typing(pair.id);
     let plain = octets_of(typing.kind, &pair.value, buffer);
     if typing.hidden && !matches!(pair.value, Value::Raw(_)) {
         let hidden = hidden(alloc, keys.secret, keys.authenticator, plain)?;
@@ -127,7 +104,7 @@ fn push_pair(octets: &mut Vec<u8>, keys: &Keys<'_>, pair: &Pair) -> Result<(), A
     if value.is_empty() {
         return Ok(());
     }
-    push_holding(octets, keys.dictionary, pair.id, value)?;
+    push_holding(octets, keys, pair.id, value)?;
     Ok(())
 }
 
@@ -185,8 +162,10 @@ fn push_list(
         → MAX_PACKET_OCTETS < length octets.old.items
         + length (under keys.now attribute_octets (kept_pairs all list.now)) }
 {
+    let mut knowing = *keys;
     for pair in list {
-        push_kept(octets, keys, pair, all)?;
+        knowing.know(pair.id);
+        push_kept(octets, &knowing, pair, all)?;
     }
     Ok(())
 }

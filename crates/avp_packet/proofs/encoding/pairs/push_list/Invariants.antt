@@ -11,4 +11,7 @@ invariant-loop-pair l = record {
   written : l.octets.items ++ attribute_octets l.keys.dictionary.now l.keys.secret.now l.keys.authenticator.now (kept_pairs l.all (drop l.pair-index l.list)) ≡ l.fn.octets.items ++ attribute_octets l.keys.dictionary.now l.keys.secret.now l.keys.authenticator.now (kept_pairs l.all l.list);
   ranged : (k : ℕ) (d : Pair) → k < l.pair-index → IsVendorInRange (get_or l.list k d).id;
   short : length l.octets.items ≤ MAX_PACKET_OCTETS;
+  dictionary : l.knowing.dictionary.now ≡ l.keys.dictionary.now;
+  secret : l.knowing.secret.now ≡ l.keys.secret.now;
+  authenticator : l.knowing.authenticator.now ≡ l.keys.authenticator.now;
 }
