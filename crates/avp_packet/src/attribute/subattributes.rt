@@ -98,13 +98,13 @@ struct VendorOctets<'a> {
 }
 
 #[tactic(auto, unfolding(crate::specs::Meanings::vendor_subattributes))]
-fn vendor_octets<'a>(dictionary: &Dictionary, value: &'a [u8]) -> Option<VendorOctets<'a>>
+fn vendor_octets<'a>(keys: &Keys<'_>, value: &'a [u8]) -> Option<VendorOctets<'a>>
     ensures vendor { IfSome result (λ found. found.vendor ≡ vendor_of value.now) }
     ensures octets { IfSome result (λ found. found.octets.now ≡ drop 4 value.now) }
     ensures format { IfSome result (λ found. is_format found.format.t found.format.l ≡ true) }
-    ensures known { IfSome result (λ found. vendor_subattributes dictionary.now value.now
+    ensures known { IfSome result (λ found. vendor_subattributes keys.now.dictionary.now value.now
         ≡ subattributes_by value.now found.format) }
-    ensures none { IfNone result (vendor_subattributes dictionary.now value.now ≡ None) }
+    ensures none { IfNone result (vendor_subattributes keys.now.dictionary.now value.now ≡ None) }
 {
     if value.len() < VENDOR_ID_OCTETS {
         return None;
@@ -112,7 +112,7 @@ fn vendor_octets<'a>(dictionary: &Dictionary, value: &'a [u8]) -> Option<VendorO
     let vendor = number_in(&value[..VENDOR_ID_OCTETS]);
     Some(VendorOctets {
         vendor,
-        format: known_format(dictionary, vendor)?,
+        format: keys.format(vendor)?,
         octets: &value[VENDOR_ID_OCTETS..],
     })
 }
@@ -155,7 +155,7 @@ pub(crate) fn push_vendor_pairs(
         ++ under keys.now vendor_pairs (part VENDOR_SPECIFIC value.now)
         (vendor_subattributes keys.now.dictionary.now value.now)) }
 {
-    let Some(found) = vendor_octets(keys.dictionary, value) else {
+    let Some(found) = vendor_octets(keys, value) else {
         return push_raw(pairs, VENDOR_SPECIFIC, value);
     };
     let count = pairs.len();

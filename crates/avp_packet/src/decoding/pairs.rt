@@ -19,6 +19,19 @@ use crate::keys::Keys;
 use avp_lists::{AttrId, Pair};
 use std::alloc::{AllocError, Global};
 
+// The id of an attribute's first pair, if its vendor's types have one octet, as those of most vendors.
+fn likely_id(front: &Front<'_>) -> AttrId {
+    match (front.number, front.value) {
+        (VENDOR_SPECIFIC, [a, b, c, d, number, ..]) => {
+            AttrId::Vendor(u32::from_be_bytes([*a, *b, *c, *d]), u32::from(*number))
+        }
+        (EXTENDED_TYPE_1..=LONG_EXTENDED_TYPE_2, [number, ..]) => {
+            AttrId::Extended(front.number, *number)
+        }
+        (number, _) => AttrId::Plain(u32::from(number)),
+    }
+}
+
 // The Extended-Type of an attribute.
 fn extended_type_of(value: &[u8]) -> u8
     ensures { result ≡ slice_index value.now 0 }
@@ -109,9 +122,11 @@ pub(crate) fn attribute_pairs(
 {
     keys.dictionary.is_sound();
     let mut pairs = Vec::with_capacity(alloc, count)?;
+    let mut knowing = *keys;
     let mut rest = octets;
     while let Some(front) = first_attribute(rest) {
-        rest = push_first(&mut pairs, keys, rest, front)?;
+        knowing.know(likely_id(&front));
+        rest = push_first(&mut pairs, &knowing, rest, front)?;
     }
     Ok(pairs)
 }

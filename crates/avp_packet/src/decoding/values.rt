@@ -38,16 +38,14 @@ fn value_meant(
 ) -> Result<Value, AllocError>
     ensures { IfOk result (λ value. value ≡ under keys.now value_meant id octets.now) }
 {
-    let Some(entry) = keys.dictionary.by_id(id) else {
-        return Ok(Value::Raw(Octets::from_slice(alloc, octets)?));
-    };
-    if entry.hidden {
+    let typing = keys.typing(id);
+    if typing.hidden {
         return value_shown(alloc, keys, id, octets);
     }
     // Texts and octets are kept as they are, so the dictionary is not asked again.
-    match entry.kind {
-        Kind::Text => Ok(Value::Text(Octets::from_slice(alloc, octets)?)),
-        Kind::Bytes => Ok(Value::Bytes(Octets::from_slice(alloc, octets)?)),
+    match typing.kind {
+        Some(Kind::Text) => Ok(Value::Text(Octets::from_slice(alloc, octets)?)),
+        Some(Kind::Bytes) => Ok(Value::Bytes(Octets::from_slice(alloc, octets)?)),
         _ => keys.dictionary.value_of_bytes(alloc, id, octets),
     }
 }
