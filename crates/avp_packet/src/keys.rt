@@ -80,7 +80,16 @@ impl Keys<'_> {
         self.dictionary.is_hidden(id)
     }
 
+    #[inline(always)]
+    fn knows(&self, id: AttrId) -> bool {
+        match &self.last_id {
+            Some(known) => known.id.equals(id),
+            None => false,
+        }
+    }
+
     /// How an id's values are read and written.
+    #[inline(always)]
     pub fn typing(&self, id: AttrId) -> ValueTyping
         ensures kind { result.kind ≡ kind_of id self.now.dictionary.now }
         ensures hidden { result.hidden ≡ is_hidden id self.now.dictionary.now }
@@ -92,6 +101,7 @@ impl Keys<'_> {
     }
 
     /// A vendor's format.
+    #[inline(always)]
     pub fn format(&self, vendor: u32) -> Option<Format>
         ensures format { result ≡ known_format vendor self.now.dictionary.now }
         ensures usable { IfSome result (λ f. is_format f.t f.l ≡ true) }
@@ -118,21 +128,28 @@ impl Keys<'_> {
         }
     }
 
-    /// Asks for an id's typing and its vendor's format, unless they are known.
+    // Asks for an id's typing and its vendor's format.
+    fn learn(&mut self, id: AttrId)
+        ensures dictionary { self.new.dictionary.now ≡ self.old.dictionary.now }
+        ensures secret { self.new.secret.now ≡ self.old.secret.now }
+        ensures authenticator { self.new.authenticator.now ≡ self.old.authenticator.now }
+    {
+        let typing = value_typing(self.dictionary, id);
+        self.last_id = Some(KnownId { id, typing });
+        if let AttrId::Vendor(number, _) = id {
+            self.know_vendor(number);
+        }
+    }
+
+    /// The same, unless they are known.
+    #[inline(always)]
     pub fn know(&mut self, id: AttrId)
         ensures dictionary { self.new.dictionary.now ≡ self.old.dictionary.now }
         ensures secret { self.new.secret.now ≡ self.old.secret.now }
         ensures authenticator { self.new.authenticator.now ≡ self.old.authenticator.now }
     {
-        if let Some(known) = self.last_id
-            && known.id.equals(id)
-        {
-            return;
-        }
-        let typing = value_typing(self.dictionary, id);
-        self.last_id = Some(KnownId { id, typing });
-        if let AttrId::Vendor(number, _) = id {
-            self.know_vendor(number);
+        if !self.knows(id) {
+            self.learn(id);
         }
     }
 }
