@@ -146,7 +146,7 @@ fn push_kept(
 
 // Adds the attributes that a list is sent in, with all of its Message-Authenticators or with none, unless the octets
 // become too many.
-fn push_list(
+fn push_each(
     octets: &mut Vec<u8>,
     keys: &Keys<'_>,
     list: &[Pair],
@@ -168,6 +168,30 @@ fn push_list(
         push_kept(octets, &knowing, pair, all)?;
     }
     Ok(())
+}
+
+// The same; for no pairs, as most requests have no Proxy-States, nothing is done.
+#[inline(always)]
+fn push_list(
+    octets: &mut Vec<u8>,
+    keys: &Keys<'_>,
+    list: &[Pair],
+    all: bool,
+) -> Result<(), EncodeFault>
+    requires fits { All (λ pair. fits pair keys.now.dictionary.now ≡ true) list.now }
+    requires short { length octets.old.items ≤ MAX_PACKET_OCTETS }
+    ensures ok { OnOk result (octets.new.items ≡ octets.old.items
+        ++ under keys.now attribute_octets (kept_pairs all list.now)) }
+    ensures ranged { OnOk result (All (λ pair. IsVendorInRange pair.id) list.now) }
+    ensures short { OnOk result (length octets.new.items ≤ MAX_PACKET_OCTETS) }
+    ensures too_long { result ≡ Err EncodeFault.TooLong
+        → MAX_PACKET_OCTETS < length octets.old.items
+        + length (under keys.now attribute_octets (kept_pairs all list.now)) }
+{
+    if list.is_empty() {
+        return Ok(());
+    }
+    push_each(octets, keys, list, all)
 }
 
 // Adds a blank Message-Authenticator where there is to be one, and says where it is.

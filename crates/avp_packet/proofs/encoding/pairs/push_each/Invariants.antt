@@ -4,7 +4,7 @@ use Rattle.avp_packet.specs.internal.Filling.{kept_pairs}
 use Rattle.avp_packet.specs.internal.Ranges.{IsVendorInRange}
 use Rattle.avp_packet.specs.declared.authenticators.TheConstants.{MAX_PACKET_OCTETS}
 use Rattle.avp_packet.specs.AttributeOctets.{attribute_octets}
-use Rattle.avp_packet.proofs.encoding.pairs.push_list.Given as goal
+use Rattle.avp_packet.proofs.encoding.pairs.push_each.Given as goal
 
 abbrev pub invariant-loop-pair : goal.invariant-loop-pair
 invariant-loop-pair l = record {
