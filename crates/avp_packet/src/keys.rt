@@ -80,14 +80,6 @@ impl Keys<'_> {
         self.dictionary.is_hidden(id)
     }
 
-    #[inline(always)]
-    fn knows(&self, id: AttrId) -> bool {
-        match &self.last_id {
-            Some(known) => known.id.equals(id),
-            None => false,
-        }
-    }
-
     /// How an id's values are read and written.
     #[inline(always)]
     pub fn typing(&self, id: AttrId) -> ValueTyping
@@ -129,7 +121,9 @@ impl Keys<'_> {
     }
 
     // Asks for an id's typing and its vendor's format.
-    fn learn(&mut self, id: AttrId)
+    fn learn(&mut self, id: AttrId) -> ValueTyping
+        ensures kind { result.kind ≡ kind_of id self.old.dictionary.now }
+        ensures hidden { result.hidden ≡ is_hidden id self.old.dictionary.now }
         ensures dictionary { self.new.dictionary.now ≡ self.old.dictionary.now }
         ensures secret { self.new.secret.now ≡ self.old.secret.now }
         ensures authenticator { self.new.authenticator.now ≡ self.old.authenticator.now }
@@ -139,17 +133,21 @@ impl Keys<'_> {
         if let AttrId::Vendor(number, _) = id {
             self.know_vendor(number);
         }
+        typing
     }
 
-    /// The same, unless they are known.
+    /// The typing of an id. It and the format of its vendor are asked for, unless they are known, and known from then on.
     #[inline(always)]
-    pub fn know(&mut self, id: AttrId)
+    pub fn know(&mut self, id: AttrId) -> ValueTyping
+        ensures kind { result.kind ≡ kind_of id self.old.dictionary.now }
+        ensures hidden { result.hidden ≡ is_hidden id self.old.dictionary.now }
         ensures dictionary { self.new.dictionary.now ≡ self.old.dictionary.now }
         ensures secret { self.new.secret.now ≡ self.old.secret.now }
         ensures authenticator { self.new.authenticator.now ≡ self.old.authenticator.now }
     {
-        if !self.knows(id) {
-            self.learn(id);
+        match self.last_id {
+            Some(known) if known.id.equals(id) => known.typing,
+            _ => self.learn(id),
         }
     }
 }

@@ -3,7 +3,7 @@
 ghost use Rattle.std.specs.Prelude.{◌≡◌, ◌≤◌, ◌<◌, ◌+◌, ◌∷◌, ◌++◌, ℕ, List, [], true, false, length, All, OnOk, IfOk, IfSome, IsTrue, Err};
 ghost use Rattle.avp_dict.specs.Limits.{fits};
 ghost use Rattle.std.specs.Cow.{cow_slice_items};
-ghost use Rattle.avp_dict.specs.Octets.{number_octets, octets_of};
+ghost use Rattle.avp_dict.specs.Octets.{is_hidden, kind_of, number_octets, octets_of};
 ghost use Rattle.avp_dict.specs.Sent.{is_internal};
 ghost use Rattle.avp_packet.specs.AttributeOctets.{attribute_octets, sent_octets};
 ghost use Rattle.avp_packet.specs.Packets.{zeros};
@@ -17,7 +17,7 @@ use crate::encoding::attributes::{push_attribute, push_holding};
 use crate::encoding::dividing::{Division, MESSAGE_AUTHENTICATOR_ID};
 use crate::faults::EncodeFault;
 use crate::hiding::hidden;
-use crate::keys::Keys;
+use crate::keys::{Keys, ValueTyping};
 use avp_dict::Kind;
 use avp_lists::{AttrId, Pair, Value};
 use std::alloc::{AllocError, Global};
@@ -72,14 +72,16 @@ pub(crate) fn octets_of<'a>(
 fn sent_octets<'a>(
     alloc: Global,
     keys: &Keys<'_>,
+    typing: ValueTyping,
     pair: &'a Pair,
     buffer: &'a mut [u8; 8],
 ) -> Result<CowSlice<'a, u8>, AllocError>
-    requires { fits pair.now keys.now.dictionary.now ≡ true }
+    requires fits { fits pair.now keys.now.dictionary.now ≡ true }
+    requires kind { typing.kind ≡ kind_of pair.now.id keys.now.dictionary.now }
+    requires hidden { typing.hidden ≡ is_hidden pair.now.id keys.now.dictionary.now }
     ensures { IfOk result (λ octets. cow_slice_items octets
         ≡ under keys.now sent_octets pair.now) }
 {
-    let typing = keys.typing(pair.id);
     let plain = octets_of(typing.kind, &pair.value, buffer);
     if typing.hidden && !matches!(pair.value, Value::Raw(_)) {
         let hidden = hidden(alloc, keys.secret, keys.authenticator, plain)?;
@@ -89,8 +91,15 @@ fn sent_octets<'a>(
 }
 
 // Adds the attributes that a pair is sent in.
-fn push_pair(octets: &mut Vec<u8>, keys: &Keys<'_>, pair: &Pair) -> Result<(), AllocError>
-    requires { fits pair.now keys.now.dictionary.now ≡ true }
+fn push_pair(
+    octets: &mut Vec<u8>,
+    keys: &Keys<'_>,
+    typing: ValueTyping,
+    pair: &Pair,
+) -> Result<(), AllocError>
+    requires fits { fits pair.now keys.now.dictionary.now ≡ true }
+    requires kind { typing.kind ≡ kind_of pair.now.id keys.now.dictionary.now }
+    requires hidden { typing.hidden ≡ is_hidden pair.now.id keys.now.dictionary.now }
     ensures octets { OnOk result (octets.new.items ≡ octets.old.items
         ++ under keys.now attribute_octets (pair.now ∷ [])) }
     ensures ranged { OnOk result (IsVendorInRange pair.now.id) }
@@ -99,7 +108,7 @@ fn push_pair(octets: &mut Vec<u8>, keys: &Keys<'_>, pair: &Pair) -> Result<(), A
         return Ok(());
     }
     let mut buffer = [0; 8];
-    let value = sent_octets(*octets.allocator(), keys, pair, &mut buffer)?;
+    let value = sent_octets(*octets.allocator(), keys, typing, pair, &mut buffer)?;
     let value = value.as_slice();
     if value.is_empty() {
         return Ok(());
@@ -121,10 +130,13 @@ pub(crate) fn is_kept(pair: &Pair, all: bool) -> bool
 fn push_kept(
     octets: &mut Vec<u8>,
     keys: &Keys<'_>,
+    typing: ValueTyping,
     pair: &Pair,
     all: bool,
 ) -> Result<(), EncodeFault>
     requires fits { fits pair.now keys.now.dictionary.now ≡ true }
+    requires kind { typing.kind ≡ kind_of pair.now.id keys.now.dictionary.now }
+    requires hidden { typing.hidden ≡ is_hidden pair.now.id keys.now.dictionary.now }
     requires short { length octets.old.items ≤ MAX_PACKET_OCTETS }
     ensures ok { OnOk result (octets.new.items ≡ octets.old.items
         ++ under keys.now attribute_octets (kept_pairs all (pair.now ∷ []))) }
@@ -137,7 +149,7 @@ fn push_kept(
     if !is_kept(pair, all) {
         return Ok(());
     }
-    push_pair(octets, keys, pair)?;
+    push_pair(octets, keys, typing, pair)?;
     if octets.len() > MAX_PACKET_OCTETS {
         return Err(EncodeFault::TooLong);
     }
@@ -164,8 +176,8 @@ fn push_each(
 {
     let mut knowing = *keys;
     for pair in list {
-        knowing.know(pair.id);
-        push_kept(octets, &knowing, pair, all)?;
+        let typing = knowing.know(pair.id);
+        push_kept(octets, &knowing, typing, pair, all)?;
     }
     Ok(())
 }

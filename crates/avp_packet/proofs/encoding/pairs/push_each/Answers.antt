@@ -17,10 +17,10 @@ loop-pair-preserved c =
     let at = c.loop-pair.pair-index in
     let old = c.loop-pair.octets.items in
     let all = c.args.all in
-    let k = c.know.new.self in
-    let dictionary : k.dictionary.now ≡ c.args.keys.now.dictionary.now = c.know.ensures.dictionary ∙ c.loop-pair.invariant.dictionary in
-    let secret : k.secret.now ≡ c.args.keys.now.secret.now = c.know.ensures.secret ∙ c.loop-pair.invariant.secret in
-    let authenticator : k.authenticator.now ≡ c.args.keys.now.authenticator.now = c.know.ensures.authenticator ∙ c.loop-pair.invariant.authenticator in
+    let k = c.know-typing.new.self in
+    let dictionary : k.dictionary.now ≡ c.args.keys.now.dictionary.now = c.know-typing.ensures.dictionary ∙ c.loop-pair.invariant.dictionary in
+    let secret : k.secret.now ≡ c.args.keys.now.secret.now = c.know-typing.ensures.secret ∙ c.loop-pair.invariant.secret in
+    let authenticator : k.authenticator.now ≡ c.args.keys.now.authenticator.now = c.know-typing.ensures.authenticator ∙ c.loop-pair.invariant.authenticator in
     let same = same_octets k.dictionary.now c.args.keys.now.dictionary.now k.secret.now c.args.keys.now.secret.now k.authenticator.now c.args.keys.now.authenticator.now (kept_pairs all (c.pair-item.result ∷ [])) dictionary secret authenticator in
     let e = c.in_ok-push_kept.ensures.ok ∙ ap (λ (os : List ℕ). old ++ os) same ∙ ap (λ (p : Pair). old ++ attribute_octets c.args.keys.now.dictionary.now c.args.keys.now.secret.now c.args.keys.now.authenticator.now (kept_pairs all (p ∷ []))) c.pair-item.is in
     record {
@@ -43,9 +43,9 @@ returns-in_err-push_kept-clause-too_long c = λ err.
     let at = c.loop-pair.pair-index in
     let old = c.loop-pair.octets.items in
     let written = λ (ps : List Pair). attribute_octets c.args.keys.now.dictionary.now c.args.keys.now.secret.now c.args.keys.now.authenticator.now (kept_pairs c.args.all ps) in
-    let k = c.know.new.self in
+    let k = c.know-typing.new.self in
     let same = same_octets k.dictionary.now c.args.keys.now.dictionary.now k.secret.now c.args.keys.now.secret.now k.authenticator.now c.args.keys.now.authenticator.now (kept_pairs c.args.all (c.pair-item.result ∷ []))
-    (c.know.ensures.dictionary ∙ c.loop-pair.invariant.dictionary) (c.know.ensures.secret ∙ c.loop-pair.invariant.secret) (c.know.ensures.authenticator ∙ c.loop-pair.invariant.authenticator) in
+    (c.know-typing.ensures.dictionary ∙ c.loop-pair.invariant.dictionary) (c.know-typing.ensures.secret ∙ c.loop-pair.invariant.secret) (c.know-typing.ensures.authenticator ∙ c.loop-pair.invariant.authenticator) in
     let alike = ap length same in
     let refused : c.push_kept.result ≡ Err TooLong = search rules in
     let here = c.in_err-push_kept.ensures.too_long (sym c.in_err-push_kept.was ∙ refused) in

@@ -21,7 +21,7 @@ pub push_holding-requires : goal.push_holding-requires
 push_holding-requires c =
     let internal : is_internal c.args.pair.now.id ≡ false = cc (c.is_internal.ensures.test, c.if-is_internal.false) in
     let same : c.as_slice-value.result.now ≡ sent_octets c.args.keys.now.dictionary.now c.args.keys.now.secret.now c.args.keys.now.authenticator.now c.args.pair.now = c.as_slice-value.ensures.value ∙ c.in_ok-value.ensures in
-    rw same (sent_held c.args.keys.now.dictionary.now c.args.keys.now.secret.now c.args.keys.now.authenticator.now c.args.pair.now c.requires internal)
+    rw same (sent_held c.args.keys.now.dictionary.now c.args.keys.now.secret.now c.args.keys.now.authenticator.now c.args.pair.now c.requires.fits internal)
 
 pub returns-clause-octets : goal.returns-clause-octets
 returns-clause-octets c =
