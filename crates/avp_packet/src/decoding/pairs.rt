@@ -32,6 +32,19 @@ fn likely_id(front: &Front<'_>) -> AttrId {
     }
 }
 
+// Asks for the id of an attribute's first pair where it may be asked for again: attributes of vendors, and others of
+// one type, mostly follow one another.
+#[inline(always)]
+fn know_first(keys: &mut Keys<'_>, front: &Front<'_>, before: u8)
+    ensures dictionary { keys.new.dictionary.now ≡ keys.old.dictionary.now }
+    ensures secret { keys.new.secret.now ≡ keys.old.secret.now }
+    ensures authenticator { keys.new.authenticator.now ≡ keys.old.authenticator.now }
+{
+    if front.number == VENDOR_SPECIFIC || front.number == before {
+        keys.know(likely_id(front));
+    }
+}
+
 // The Extended-Type of an attribute.
 fn extended_type_of(value: &[u8]) -> u8
     ensures { result ≡ slice_index value.now 0 }
@@ -123,9 +136,11 @@ pub(crate) fn attribute_pairs(
     keys.dictionary.is_sound();
     let mut pairs = Vec::with_capacity(alloc, count)?;
     let mut knowing = *keys;
+    let mut before = 0;
     let mut rest = octets;
     while let Some(front) = first_attribute(rest) {
-        knowing.know(likely_id(&front));
+        know_first(&mut knowing, &front, before);
+        before = front.number;
         rest = push_first(&mut pairs, &knowing, rest, front)?;
     }
     Ok(pairs)

@@ -18,10 +18,10 @@ pub loop-front-preserved : goal.loop-front-preserved
 loop-front-preserved c =
     let f = c.in-Some.front in
     let old = c.loop-front.pairs.items in
-    let k = c.know.new.self in
-    let dictionary : k.dictionary.now ≡ c.args.keys.now.dictionary.now = c.know.ensures.dictionary ∙ c.loop-front.invariant.dictionary in
-    let secret : k.secret.now ≡ c.args.keys.now.secret.now = c.know.ensures.secret ∙ c.loop-front.invariant.secret in
-    let authenticator : k.authenticator.now ≡ c.args.keys.now.authenticator.now = c.know.ensures.authenticator ∙ c.loop-front.invariant.authenticator in
+    let k = c.know_first.new.keys in
+    let dictionary : k.dictionary.now ≡ c.args.keys.now.dictionary.now = c.know_first.ensures.dictionary ∙ c.loop-front.invariant.dictionary in
+    let secret : k.secret.now ≡ c.args.keys.now.secret.now = c.know_first.ensures.secret ∙ c.loop-front.invariant.secret in
+    let authenticator : k.authenticator.now ≡ c.args.keys.now.authenticator.now = c.know_first.ensures.authenticator ∙ c.loop-front.invariant.authenticator in
     let same = same_pairs k.dictionary.now c.args.keys.now.dictionary.now k.secret.now c.args.keys.now.secret.now k.authenticator.now c.args.keys.now.authenticator.now (part f.number f.value.now) (parts f.rest.now) dictionary secret authenticator in
     let read = one_read c.args.keys.now.dictionary.now c.args.keys.now.secret.now c.args.keys.now.authenticator.now c.loop-front.pairs.items c.push_first.new.pairs.items c.loop-front.rest.now f.rest.now c.in_ok-rest.rest.now (part f.number f.value.now)
     c.in-Some.ensures.octets (c.in_ok-rest.ensures.pairs ∙ ap (λ (ps : List Pair). old ++ ps) same) c.in_ok-rest.ensures.rest
