@@ -121,6 +121,7 @@ impl Keys<'_> {
     }
 
     // Asks for an id's typing and its vendor's format.
+    #[inline(always)]
     fn learn(&mut self, id: AttrId) -> ValueTyping
         ensures kind { result.kind ≡ kind_of id self.old.dictionary.now }
         ensures hidden { result.hidden ≡ is_hidden id self.old.dictionary.now }
