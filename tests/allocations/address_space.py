@@ -32,9 +32,10 @@ def run_within(command: Sequence[Word], case: Case, octets: int) -> Ended:
 
 
 def least(is_enough: Callable[[int], bool], floor: int) -> int:
-    """The least limit above a floor that is enough, to a sixteenth of what is above the floor."""
+    """The least limit above a floor that is enough, to a page: what a small run takes beyond its start may be less than
+    a sixteenth of that."""
     low, high = floor, MOST
-    while high - low > max(STEP, (high - floor) // 16):
+    while high - low > STEP:
         middle = (low + high) // 2
         low, high = (low, middle) if is_enough(middle) else (middle, high)
     return high
