@@ -1,7 +1,6 @@
 pub mod AgreeingLines
 pub mod Agreement
 pub mod Appending
-pub mod AttributeRows
 pub mod BarredNames
 pub mod CountedNames
 pub mod DigitPairs

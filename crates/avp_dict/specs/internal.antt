@@ -1,5 +1,4 @@
 pub mod Agreeing
-pub mod AttributeRows
 pub mod Contents
 pub mod Entries
 pub mod Lanes
@@ -13,6 +12,7 @@ pub mod Numbers
 pub mod Ranges
 pub mod Refused
 pub mod RequestTokens
+pub mod SecretIds
 pub mod Tables
 pub mod Targets
 pub mod Views

@@ -11,7 +11,7 @@ mod places;
 mod values;
 mod vendors;
 
-pub use attributes::{AttributeRow, Attributes};
+pub use attributes::Attributes;
 pub use names::NameSet;
 pub use values::Values;
 pub use vendors::Vendors;

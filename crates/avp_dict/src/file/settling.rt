@@ -8,7 +8,7 @@ ghost use Rattle.std.specs.Result.{result_map_both};
 ghost use Rattle.avp_lists.specs.Meets.{Meets, Unless};
 ghost use Rattle.avp_dict.specs.DictionaryReading.{settled_dictionary};
 ghost use Rattle.avp_dict.specs.Meanings.{context_of};
-ghost use Rattle.avp_dict.specs.Settled.{holds, is_in_format, is_kept, skipped_names, used};
+ghost use Rattle.avp_dict.specs.Settled.{holds, is_in_format, is_kept, is_kept_line, skipped_names, used};
 ghost use Rattle.avp_dict.specs.Values.{resolve};
 ghost use Rattle.avp_dict.specs.internal.Agreeing.{AreAloneValues};
 ghost use Rattle.avp_dict.specs.internal.Contents.{contents_view};
@@ -23,7 +23,7 @@ use crate::file::attributes::is_held;
 use crate::file::context::Context;
 use crate::file::meanings::{Meaning, Reading};
 use crate::file::numbers::GREATEST_NUMBER;
-use crate::tables::{AttributeRow, Attributes, NameSet, Values, Vendors};
+use crate::tables::{Attributes, NameSet, Values, Vendors};
 use avp_lists::AttrId;
 use std::alloc::{AllocError, Global};
 
@@ -96,13 +96,13 @@ impl LastFormat {
     }
 }
 
-fn are_kept(vendors: &Vendors, rows: &[AttributeRow]) -> bool
-    ensures { result ≡ list_all (λ row. is_kept vendors.now row.id) rows.now }
+fn are_kept(vendors: &Vendors, lines: &[AttributeLine]) -> bool
+    ensures { result ≡ list_all (is_kept_line vendors.now) lines.now }
 {
     let mut last = LastFormat::of(vendors, 0);
-    let mut rest = rows;
-    while let [row, after @ ..] = rest {
-        if !last.is_kept(vendors, row.id) {
+    let mut rest = lines;
+    while let [line, after @ ..] = rest {
+        if !last.is_kept(vendors, line.id) {
             return false;
         }
         rest = after;
@@ -122,12 +122,12 @@ fn only_kept(
     ensures { OnOk result (kept.new ≡ used vendors.now attributes.now) }
 {
     let mut last = LastFormat::of(vendors, 0);
-    let rows = attributes.rows();
-    for row in rows {
-        if last.is_kept(vendors, row.id) {
-            let name = row.name.copy(alloc)?;
-            let id = row.id;
-            let typing = row.typing;
+    let lines = attributes.as_slice();
+    for line in lines {
+        if last.is_kept(vendors, line.id) {
+            let name = line.name.copy(alloc)?;
+            let id = line.id;
+            let typing = line.typing;
             kept.push(AttributeLine { name, id, typing })?;
         }
     }
@@ -142,7 +142,7 @@ pub(crate) fn used(
 ) -> Result<Attributes, AllocError>
     ensures { IfOk result (λ kept. kept ≡ used vendors.now attributes) }
 {
-    if are_kept(vendors, attributes.rows()) {
+    if are_kept(vendors, attributes.as_slice()) {
         return Ok(attributes);
     }
     let mut kept = Attributes::new(alloc);

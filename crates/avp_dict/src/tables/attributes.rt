@@ -1,46 +1,36 @@
-ghost use Rattle.std.specs.Prelude.{◌≡◌, ◌≤◌, ◌++◌, ◌∷◌, [], false, length, map, slice_get, All, IfOk, OnOk};
+ghost use Rattle.std.specs.Prelude.{◌≡◌, ◌≤◌, ◌++◌, ◌∷◌, [], length, map, slice_get, All, IfOk, OnOk};
 ghost use Rattle.std.specs.List.{list_any};
-ghost use Rattle.std.specs.Option.{option_and_then, option_copied, option_map, option_map_or};
+ghost use Rattle.std.specs.Option.{option_and_then, option_copied, option_map};
 ghost use Rattle.std.specs.Set.{distinct_count};
 ghost use Rattle.std.specs.Str.{bytes_eq};
 ghost use Rattle.avp_lists.specs.Pairs.{id_eq};
 ghost use Rattle.avp_dict.specs.Dictionary.{attribute_key, first_names, id_named, id_of_line, is_attribute_named, is_attribute_of, is_secret_line_of, last_where, names_other_id, typing_of_id};
 ghost use Rattle.avp_dict.specs.Letters.{max_name};
 ghost use Rattle.avp_dict.specs.internal.Agreeing.{AreAloneNames, differs};
-ghost use Rattle.avp_dict.specs.internal.AttributeRows.{line_of, lines_of, marked_by};
+ghost use Rattle.avp_dict.specs.internal.SecretIds.{AreSecretIds};
 ghost use Rattle.avp_dict.specs.internal.Tables.{IsLastAt};
 
 use crate::entries::{AttributeLine, Typing};
-use crate::spelling::Name;
 use crate::tables::keyed::{Keyed, KeyedLines};
 use crate::tables::keys::{FoldedName, IdKey, id_key};
 use avp_lists::AttrId;
+use indexmap::IndexSet;
 use std::alloc::{AllocError, Global};
 use std::marker::Model;
 
-/// A line as the table keeps it.
-#[derive(Drop)]
-pub struct AttributeRow {
-    pub name: Name,
-    pub id: AttrId,
-    pub typing: Typing,
-    /// Whether this line or an earlier one with its id is marked as secret.
-    pub marked: bool,
-}
-
-impl Keyed for AttributeRow {
-    ghost use Rattle.avp_dict.specs.internal.AttributeRows.{row_key};
+impl Keyed for AttributeLine {
+    ghost use Rattle.avp_dict.specs.Dictionary.{attribute_key};
     ghost use Rattle.avp_dict.specs.internal.Tables.{id_key};
 
     type NameKey = FoldedName;
 
     type NumberKey = IdKey;
 
-    ghost spelled = { λ r. r.name };
+    ghost spelled = { λ line. line.name };
 
-    ghost name_of = { row_key };
+    ghost name_of = { attribute_key };
 
-    ghost number_of = { λ r. id_key r.id };
+    ghost number_of = { λ line. id_key line.id };
 
     fn name_key(&self) -> FoldedName {
         FoldedName::of_short(self.name.as_slice())
@@ -53,26 +43,50 @@ impl Keyed for AttributeRow {
 
 /// ATTRIBUTE lines in their order.
 pub struct Attributes {
-    rows: KeyedLines<AttributeRow>,
+    lines: KeyedLines<AttributeLine>,
+    // Those of the lines that are marked as secret.
+    secret_ids: IndexSet<IdKey>,
 }
 
 // As a function, so that a proof which drops the lines sees one step and not those of the table.
 impl Drop for Attributes {
     fn drop(self) {
-        let Attributes { rows: _ } = self;
+        let Attributes {
+            lines: _,
+            secret_ids: _,
+        } = self;
     }
 }
 
 impl Model for Attributes {
     ghost use Rattle.std.specs.Prelude.{List};
     ghost use Rattle.avp_dict.specs.declared.entries.AttributeLine.{AttributeLine};
-    ghost use Rattle.avp_dict.specs.internal.AttributeRows.{KeepMarks, lines_of};
+    ghost use Rattle.avp_dict.specs.internal.SecretIds.{AreSecretIds};
 
     ghost Value = { List AttributeLine };
 
-    ghost view = { λ t. lines_of t.rows };
+    ghost view = { λ t. t.lines };
 
-    ghost invariant = { λ t. KeepMarks t.rows };
+    ghost invariant = { λ t. AreSecretIds t.secret_ids t.lines };
+}
+
+// One more line. The answer is the place of the last line before it with its name.
+fn add_line(
+    lines: &mut KeyedLines<AttributeLine>,
+    secret_ids: &mut IndexSet<IdKey>,
+    line: AttributeLine,
+) -> Result<Option<usize>, AllocError>
+    requires short { length line.name ≤ max_name }
+    requires secret { AreSecretIds secret_ids.old lines.old }
+    ensures line { OnOk result (lines.new ≡ lines.old ++ line ∷ []) }
+    ensures secret { OnOk result (AreSecretIds secret_ids.new lines.new) }
+    ensures before { IfOk result (IsLastAt (is_attribute_named line.name) lines.old) }
+{
+    if line.typing.secret {
+        secret_ids.insert(id_key(line.id))?;
+    }
+    let before = lines.put(line)?;
+    Ok(before)
 }
 
 // By `equals`, since of an id's derived `==` nothing is known outside its crate.
@@ -90,7 +104,8 @@ impl Attributes {
         ensures { result ≡ [] }
     {
         Attributes {
-            rows: KeyedLines::new(alloc),
+            lines: KeyedLines::new(alloc),
+            secret_ids: IndexSet::new(alloc),
         }
     }
 
@@ -98,16 +113,17 @@ impl Attributes {
     pub fn with_capacity(alloc: Global, lines: usize) -> Result<Attributes, AllocError>
         ensures { IfOk result (λ attributes. attributes ≡ []) }
     {
-        let rows = KeyedLines::with_capacity(alloc, lines)?;
-        Ok(Attributes { rows })
+        let lines = KeyedLines::with_capacity(alloc, lines)?;
+        let secret_ids = IndexSet::new(alloc);
+        Ok(Attributes { lines, secret_ids })
     }
 
     /// The lines in their order.
-    pub fn rows(&self) -> &[AttributeRow]
-        ensures lines { lines_of result.now ≡ self.now }
-        ensures short { All (λ row. length row.name ≤ max_name) result.now }
+    pub fn as_slice(&self) -> &[AttributeLine]
+        ensures lines { result.now ≡ self.now }
+        ensures short { All (λ line. length line.name ≤ max_name) self.now }
     {
-        self.rows.as_slice()
+        self.lines.as_slice()
     }
 
     // Adds a line. The answer is the place of the last line before it with its name. If memory runs out, all are
@@ -117,14 +133,14 @@ impl Attributes {
         ensures line { OnOk result (self.new ≡ self.old ++ line ∷ []) }
         ensures before { IfOk result (IsLastAt (is_attribute_named line.name) self.old) }
     {
-        let AttributeLine { name, id, typing } = line;
-        let marked = typing.secret || self.is_marked_secret(id);
-        self.rows.put(AttributeRow {
-            name,
-            id,
-            typing,
-            marked,
-        })
+        match add_line(&mut self.lines, &mut self.secret_ids, line) {
+            Ok(before) => Ok(before),
+            Err(error) => {
+                self.lines.clear();
+                self.secret_ids.clear();
+                Err(error)
+            }
+        }
     }
 
     /// Adds a line. If memory runs out, all are dropped.
@@ -141,7 +157,7 @@ impl Attributes {
         ensures { result
             ≡ option_map id_of_line (option_and_then (slice_get self.now) place) }
     {
-        let line = self.rows().get(place?)?;
+        let line = self.as_slice().get(place?)?;
         Some(line.id)
     }
 
@@ -159,21 +175,17 @@ impl Attributes {
     }
 
     /// The last line with this name, without regard to ASCII case.
-    pub fn by_name(&self, name: &[u8]) -> Option<&AttributeRow>
-        ensures { option_map line_of (option_copied result)
-            ≡ last_where (is_attribute_named name.now) self.now }
+    pub fn by_name(&self, name: &[u8]) -> Option<&AttributeLine>
+        ensures { option_copied result ≡ last_where (is_attribute_named name.now) self.now }
     {
-        self.rows.named(FoldedName::of(name))
+        self.lines.named(FoldedName::of(name))
     }
 
     /// The last line with this id.
-    pub fn by_id(&self, id: AttrId) -> Option<&AttributeRow>
-        ensures line { option_map line_of (option_copied result)
-            ≡ last_where (is_attribute_of id) self.now }
-        ensures marked { option_map_or marked_by (option_copied result) false
-            ≡ list_any (is_secret_line_of id) self.now }
+    pub fn by_id(&self, id: AttrId) -> Option<&AttributeLine>
+        ensures { option_copied result ≡ last_where (is_attribute_of id) self.now }
     {
-        self.rows.numbered(&id_key(id))
+        self.lines.numbered(&id_key(id))
     }
 
     /// The id that a name stands for.
@@ -198,17 +210,14 @@ impl Attributes {
     pub fn is_marked_secret(&self, id: AttrId) -> bool
         ensures { result ≡ list_any (is_secret_line_of id) self.now }
     {
-        match self.by_id(id) {
-            Some(last) => last.marked,
-            None => false,
-        }
+        self.secret_ids.contains(&id_key(id))
     }
 
     /// How many names the lines have.
     pub fn count(&self) -> usize
         ensures { result ≡ distinct_count bytes_eq (map attribute_key self.now) }
     {
-        self.rows.count()
+        self.lines.count()
     }
 
     /// A name in lower case, by its place among the names in the order of their first lines.
@@ -216,7 +225,7 @@ impl Attributes {
     pub fn name(&self, at: usize) -> Option<&[u8]>
         ensures { option_copied result ≡ slice_get (first_names self.now) at }
     {
-        let name = self.rows.name_at(at)?;
+        let name = self.lines.name_at(at)?;
         Some(name.as_slice())
     }
 }

@@ -126,6 +126,15 @@ impl<L: Keyed> KeyedLines<L> {
         self.lines.as_slice()
     }
 
+    /// No line is left.
+    pub fn clear(&mut self)
+        ensures { self.new ≡ [] }
+    {
+        self.lines.clear();
+        self.names.clear();
+        self.numbers.clear();
+    }
+
     /// Adds a line. If memory runs out, all are dropped.
     #[inline(always)]
     pub fn push(&mut self, line: L) -> Result<(), AllocError>
