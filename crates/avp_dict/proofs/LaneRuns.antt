@@ -76,7 +76,8 @@ same_lanes : (f g : ℕ → ℕ) → agree_below (λ x. eqb (f x) (g x)) (λ _. 
 same_lanes f g all [] fit = refl
 same_lanes f g all (o ∷ os) fit = ap₂ (λ x l. x ∷ l) (eqb-true (f o) (g o) (agree_below_at (λ x. eqb (f x) (g x)) (λ _. true) 256 o all fit.0.fits)) (same_lanes f g all os fit.1)
 
--- the first sixteen octets of a text, of which those that are marked are put as f has them, if each octet is then as g has it
+-- the first sixteen octets of a text, of which those that are marked are put as f has them, if each octet is then as g
+-- has it
 pub sixteen_put : (m : ℕ → ℕ) (f g : ℕ → ℕ) (text z others : List ℕ) → 16 ≤ length text → ((k : ℕ) → Fits w8 (get_or text k 0)) → z ≡ map m (chunk 0 16 text) → others ≡ map f (chunk 0 16 text) → agree_below (λ x. eqb (cond (top 7 (m x)) (f x) x) (g x)) (λ _. true) 256 ≡ true → put_chunk 0 text (sel_l (map (top 7) z) others (chunk 0 16 text)) ≡ map g (take 16 text) ++ drop 16 text
 sixteen_put m f g text z others room fits marks puts all =
     let v = chunk 0 16 text in
