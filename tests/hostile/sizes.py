@@ -322,8 +322,23 @@ def line_rows() -> List[Row]:
     ]
 
 
+def hash_rows() -> List[Row]:
+    """Names of values whose keys share one hash, since its seed is fixed: reading them takes time that grows with the
+    square of how many there are. The kit's hasher joins the first eight octets of a name to what it made of the
+    attribute's id, and multiplies that by what it makes of the rest; with this id and these octets it is 0."""
+    count = 7000
+    head = b"VENDOR V 9001 format=4,1\nBEGIN-VENDOR V\nATTRIBUTE A 427001 integer\n"
+    values = head + b"".join(b"VALUE A ynwtg04z%08d %d\n" % (at, at) for at in range(count))
+    last = b"VALUE A YNWTG04Z%08d 7\n" % (count - 1)
+    end = b"END-VENDOR V\n"
+    return [
+        check_row("7,000 names of values of one hash", COUNTS % (1, 1, count, 1, 0), dictionary=values + end),
+        check_row("7,000, the last with two numbers", fault="E19 dictionary:7004", dictionary=values + last + end),
+    ]
+
+
 def rows() -> Iterator[Row]:
     """All of them, some at a time, since they are large."""
     makers = [value_rows, name_rows, depth_rows, policy_rows, pattern_rows, capture_rows, text_rows]
-    for maker in [*makers, input_rows, full_rows, request_rows, include_rows, line_rows]:
+    for maker in [*makers, input_rows, full_rows, request_rows, include_rows, line_rows, hash_rows]:
         yield from maker()
