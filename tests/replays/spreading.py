@@ -65,6 +65,12 @@ def started(*command: object) -> Iterator["subprocess.Popen[bytes]"]:
             end_session(process.pid)
 
 
+def errors_missing(errors: bytes, wanted: bytes) -> List[str]:
+    """What is wrong unless the wanted lines are there. Dask itself may say more, before them that a worker is gone, or
+    after them, where a processor is busy, that something took too long."""
+    return [] if b"\n" + wanted in b"\n" + errors else [f"{errors!r}, not {wanted!r}"]
+
+
 def spread(place: Place, scheduler: str, files: Sequence[str], command: Sequence[object]) -> "subprocess.Popen[bytes]":
     script = place.subject.root / "examples/replay/spread.py"
     words = [PYTHON, script, scheduler, *files, "--", *command]
@@ -84,8 +90,7 @@ def check_death(place: Place, scheduler: str, worker: "subprocess.Popen[bytes]",
         worker.kill()
         out, errors = process.communicate(timeout=SECONDS)
     said = subprocess.CompletedProcess([], process.returncode, first + out, errors)
-    # (dask itself may say before it that a worker is gone)
-    wrong = faults(said, whole) + ([] if errors.endswith(whole.errors) else [f"{errors!r}, not {whole.errors!r}"])
+    wrong = faults(said, whole) + errors_missing(errors, whole.errors)
     report.check("replay: by dask, where a worker dies", wrong)
 
 
@@ -101,12 +106,11 @@ def check_dask(place: Place, whole: Ended, report: Report) -> None:
             with spread(place, scheduler, ["records"], place.command()) as process:
                 out, errors = process.communicate(timeout=SECONDS)
             said = subprocess.CompletedProcess([], process.returncode, out, errors)
-            wrong = faults(said, whole) + ([] if errors == whole.errors else [f"{errors!r}, not {whole.errors!r}"])
-            report.check("replay: by dask", wrong)
+            report.check("replay: by dask", faults(said, whole) + errors_missing(errors, whole.errors))
             with spread(place, scheduler, ["records"], place.command(JSON)) as process:
                 _, errors = process.communicate(timeout=SECONDS)
             wanted = place.replay((place.folder / "records").read_bytes(), JSON).errors
-            report.check("replay: by dask, as JSON", [] if errors == wanted else [f"{errors!r}, not {wanted!r}"])
+            report.check("replay: by dask, as JSON", errors_missing(errors, wanted))
             check_death(place, scheduler, last, whole, report)
 
 
