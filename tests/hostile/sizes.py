@@ -325,7 +325,8 @@ def line_rows() -> List[Row]:
 def hash_rows() -> List[Row]:
     """Names of values whose keys share one hash, since its seed is fixed: reading them takes time that grows with the
     square of how many there are. The kit's hasher joins the first eight octets of a name to what it made of the
-    attribute's id, and multiplies that by what it makes of the rest; with this id and these octets it is 0."""
+    attribute's id, and multiplies that by what it makes of the rest; with this id and these octets the product is 0. By
+    another hasher they are names like any others."""
     count = 7000
     head = b"VENDOR V 9001 format=4,1\nBEGIN-VENDOR V\nATTRIBUTE A 427001 integer\n"
     values = head + b"".join(b"VALUE A ynwtg04z%08d %d\n" % (at, at) for at in range(count))

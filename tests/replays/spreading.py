@@ -65,10 +65,11 @@ def started(*command: object) -> Iterator["subprocess.Popen[bytes]"]:
             end_session(process.pid)
 
 
-def errors_missing(errors: bytes, wanted: bytes) -> List[str]:
-    """What is wrong unless the wanted lines are there. Dask itself may say more, before them that a worker is gone, or
-    after them, where a processor is busy, that something took too long."""
-    return [] if b"\n" + wanted in b"\n" + errors else [f"{errors!r}, not {wanted!r}"]
+def wrong_errors(errors: bytes, wanted: bytes) -> List[str]:
+    """What is wrong unless the wanted lines are there, once. Dask itself may say more, before them that a worker is
+    gone, or after them, where a processor is busy, that something took too long."""
+    is_right = (b"\n" + errors).count(b"\n" + wanted) == 1
+    return [] if is_right else [f"{errors!r}, not {wanted!r}"]
 
 
 def spread(place: Place, scheduler: str, files: Sequence[str], command: Sequence[object]) -> "subprocess.Popen[bytes]":
@@ -90,7 +91,7 @@ def check_death(place: Place, scheduler: str, worker: "subprocess.Popen[bytes]",
         worker.kill()
         out, errors = process.communicate(timeout=SECONDS)
     said = subprocess.CompletedProcess([], process.returncode, first + out, errors)
-    wrong = faults(said, whole) + errors_missing(errors, whole.errors)
+    wrong = faults(said, whole) + wrong_errors(errors, whole.errors)
     report.check("replay: by dask, where a worker dies", wrong)
 
 
@@ -106,11 +107,11 @@ def check_dask(place: Place, whole: Ended, report: Report) -> None:
             with spread(place, scheduler, ["records"], place.command()) as process:
                 out, errors = process.communicate(timeout=SECONDS)
             said = subprocess.CompletedProcess([], process.returncode, out, errors)
-            report.check("replay: by dask", faults(said, whole) + errors_missing(errors, whole.errors))
+            report.check("replay: by dask", faults(said, whole) + wrong_errors(errors, whole.errors))
             with spread(place, scheduler, ["records"], place.command(JSON)) as process:
                 _, errors = process.communicate(timeout=SECONDS)
             wanted = place.replay((place.folder / "records").read_bytes(), JSON).errors
-            report.check("replay: by dask, as JSON", errors_missing(errors, wanted))
+            report.check("replay: by dask, as JSON", wrong_errors(errors, wanted))
             check_death(place, scheduler, last, whole, report)
 
 
