@@ -14,7 +14,7 @@ from common.program import run
 from common.report import Report
 from common.subject import Subject, new_folder, on_all
 from imports.debian import DICTIONARIES, INSTALLED, dictionary_words
-from library.in_server import CLIENT, SERVER, answered, server
+from library.serving import CLIENT, SERVER, answered, server
 
 SECRET = "testing123"
 SEED = 20_261_127
