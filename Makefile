@@ -1,7 +1,7 @@
 # make run        shows examples/hello by the proved program; if that is still to be built, first without a proof
 # make test       the gate, then the examples, the documents and the tests of tests/ through the built programs
 # make trials     the tests of tests/ alone
-# make wrong-bodies  tries the wrong bodies of CRATES, those that the gate leaves out too
+# make wrong-bodies  tries the wrong bodies of CRATES, or of all crates, those that the gate leaves out too
 # make bench      measures the program and packets, beside FreeRADIUS where it is installed (docs/SPEED.md)
 # make fuzz       changed cases through the built program, for so many SECONDS
 # make documents  the documents' links and commands, the examples in doc comments, the completions and the manual

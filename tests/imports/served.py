@@ -14,7 +14,7 @@ from common.program import run
 from common.report import Report
 from common.subject import Subject, new_folder, on_all
 from imports.debian import DICTIONARIES, INSTALLED, dictionary_words
-from library.in_server import CLIENT, SERVER, answered, server
+from library.serving import CLIENT, SERVER, answered, server
 
 SECRET = "testing123"
 SEED = 20_261_127
@@ -390,7 +390,7 @@ def of_policy(subject: Subject, policy: str, dictionaries: List[str], request: s
 def imported(subject: Subject, folder: Path, dictionaries: Path, name: str) -> Tuple[str, List[str]]:
     """The report of the import of a policy, and the dictionaries that it is read with."""
     others = folder / f"{name}.dictionary"
-    words = ["--server", name, "--dictionary", others, "-o", folder / f"{name}.policy"]
+    words = ["--server", name, "--write-dictionary", others, "-o", folder / f"{name}.policy"]
     words += ["--section", section_of(name)]
     if name in REWRITING:
         words.append("--stub-functions")

@@ -8,6 +8,7 @@ from common.program import Ended, run
 from common.report import Report
 from common.subject import Subject, new_folder, on_all
 from configurations.hostile import KILOBYTES, SECONDS, WHOLE, cases, written
+from outputs.writers import of_import
 
 DICTIONARY = "crates/radpolicy_import/data/dictionary"
 SITE = b"""authorize {
@@ -61,16 +62,16 @@ if (!&control:Import-Returned) {
 MAP = b"""1 first:2
 2 first:2
 3 first:2
-4 first:3
-5 first:2
-6 site:2
-7 site:14 (q)
+4 first:2
+5 first:3
+6 first:2
+7 site:2
 8 site:14 (q)
 9 site:14 (q)
 10 site:14 (q)
 11 site:14 (q)
-12 site:3
-13 site:5
+12 site:14 (q)
+13 site:3
 14 site:5
 15 site:5
 16 site:5
@@ -80,13 +81,14 @@ MAP = b"""1 first:2
 20 site:5
 21 site:5
 22 site:5
-23 site:7
+23 site:5
 24 site:7
 25 site:7
-26 site:3
+26 site:7
 27 site:3
-28 site:9
-29 site:3
+28 site:3
+29 site:9
+30 site:3
 """
 INITIAL = b"""# an answer
 control:Import-Sql-1 = "yes"
@@ -98,7 +100,8 @@ TEMPLATE = b"""# site:5
 REPORT = b"""6 of 6 statements kept, 0 module calls are comments
 1 of the kept have a value that is given
 """
-OPTIONS = ["--map", "map", "--initial-template", "template", "--dictionary", "dictionary.others", "-o", "policy"]
+IMPORT = of_import("-o")
+OPTIONS = ["--map", "map", "--initial-template", "template", "--write-dictionary", "dictionary.others", "-o", "policy"]
 OUTPUTS = ("map", "template", "dictionary.others", "policy")
 
 
@@ -145,7 +148,7 @@ def check_files(subject: Subject, report: Report) -> None:
         faults = [] if ended.status == 0 and ended.errors.startswith(REPORT) else [f"{ended.status}, {ended.errors!r}"]
         for name, wanted in (("policy", POLICY), ("map", MAP), ("template", TEMPLATE)):
             found = (folder / name).read_bytes() if (folder / name).exists() else b""
-            faults += [] if found == wanted else [f"{name}: {found!r}"]
+            faults += [] if IMPORT.without_mark(found) == wanted else [f"{name}: {found!r}"]
         report.check("a policy, its map and its initial lists imported", faults)
 
 
@@ -213,6 +216,88 @@ def check_unreadable(subject: Subject, report: Report) -> None:
             said = (ended.status, ended.errors)
             faults = [] if said == (2, b"radpolicy-import: " + wanted + b"\n") else [f"{said}"]
             report.check(f"{name} not read", faults + outputs_of(folder))
+
+
+# Names that mean something between quotes, or end a line.
+NAMES = ('a"b', "${a}", "a\nb", "a\\b", "'", "$INCLUDE", "d\n/${a}", 'a b"')
+
+
+def check_names(subject: Subject, report: Report) -> None:
+    """Files of any name are imported, beside others, and what they include is beside them."""
+    for name in NAMES:
+        with new_folder() as folder:
+            written(folder, {name: b"$INCLUDE part\n" + SITE, str(Path(name).parent / "part"): b"a = b\n", "other": b"c = d\n"})
+            ended = imported(subject, folder, ["other", name])
+            faults = [] if ended.status == 0 and ended.errors.startswith(b"6 of 6") else [f"{ended.status}, {ended.errors!r}"]
+            origins = (folder / "map").read_text() if not faults else ""
+            faults += [] if f" {name}:".replace("\n", "\\012") in origins else [origins[:200]]
+            report.check(f"a file of the name {name!r} imported", faults)
+
+
+def check_pipes(subject: Subject, report: Report) -> None:
+    """A pipe is read where the words name it, and not waited for where it is included."""
+    cases = {"a pipe": b"$INCLUDE pipe\n", "a folder with a pipe": b"$INCLUDE d/\n", "a device": b"$INCLUDE /dev/zero\n"}
+    for name, text in cases.items():
+        with new_folder() as folder:
+            (folder / "d").mkdir()
+            os.mkfifo(folder / "pipe")
+            os.mkfifo(folder / "d/pipe")
+            (folder / "site").write_bytes(text)
+            ended = imported(subject, folder, ["site"], ["timeout", "10"])
+            is_right = ended.status == 2 and b"site:1: " in ended.errors and b"neither a file nor a folder" in ended.errors
+            report.check(f"an include of {name} refused", [] if is_right else [f"{ended.status}, {ended.errors!r}"])
+    with new_folder() as folder:
+        (folder / "given").write_bytes(SITE)
+        ended = imported(subject, folder, ["/dev/stdin"], ["sh", "-c", 'cat given | timeout 10 "$@"', "sh"])
+        report.check("a pipe imported", [] if ended.status == 0 else [f"{ended.status}, {ended.errors!r}"])
+
+
+# The calls of docs/IMPORT.md, one after the other, and the file that is filled in between them.
+CALLS = (
+    ["-o", "policy"],
+    ["--server", "inner-tunnel", "--section", "post-auth", "--write-dictionary", "dictionary.others", "-o", "policy"],
+    ["--section", "post-auth", "--write-dictionary", "dictionary.others", "--initial-template", "initial", "-o", "policy"],
+    ["--section", "post-auth", "--write-dictionary", "dictionary.others", "--initial", "initial", "-o", "policy"],
+)
+SERVER = b"""server default {
+	authorize {
+		reject
+	}
+	post-auth {
+		if (&outer.request:User-Name == "bob") {
+			reject
+		}
+	}
+}
+server inner-tunnel {
+	post-auth {
+		if (&session-state:User-Name == "bob") {
+			reject
+		}
+	}
+}
+"""
+
+
+def check_calls(subject: Subject, report: Report) -> None:
+    """The document's calls go through, and a template that was filled in stays."""
+    with new_folder() as folder:
+        written(folder, {"raddb/radiusd.conf": SERVER})
+        command = [subject.driver("radpolicy_import"), "--dict", subject.root / DICTIONARY]
+        faults = []
+        for words in CALLS:
+            ended = run([*command, *words, "raddb"], folder)
+            faults += [] if ended.status == 0 else [f"{words}: {ended.errors!r}"]
+            template = folder / "initial"
+            if "--initial-template" in words and template.exists():
+                template.write_bytes(template.read_bytes().replace(b"#control", b"control").replace(b"= \n", b"= 'bob'\n"))
+        filled = (folder / "initial").read_bytes()
+        again = run([*command, *CALLS[2], "raddb"], folder)
+        is_kept = again.status == 2 and b"E02 initial: " in again.errors and b"--force" in again.errors
+        faults += [] if is_kept and (folder / "initial").read_bytes() == filled else [f"{again.errors!r}"]
+        forced = run([*command, *CALLS[2], "--force", "raddb"], folder)
+        faults += [] if forced.status == 0 else [f"{forced.errors!r}"]
+        report.check("the calls of the document one after the other", faults)
 
 
 def hostile_cases() -> Dict[str, Dict[str, bytes]]:
@@ -295,6 +380,9 @@ def check(subject: Subject, report: Report) -> None:
     check_warnings(subject, report)
     check_faults(subject, report)
     check_unreadable(subject, report)
+    check_names(subject, report)
+    check_pipes(subject, report)
+    check_calls(subject, report)
 
 
 def check_crafted(subject: Subject, report: Report) -> None:

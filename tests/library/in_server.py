@@ -2,48 +2,20 @@
 run` of the same requests; as a shadow it changes nothing and tells which answers would be others."""
 import random
 import re
-import shutil
-import subprocess
-import time
-from contextlib import contextmanager
 from pathlib import Path
-from typing import Dict, Iterator, List, NamedTuple, Optional, Tuple
+from typing import Dict, List, NamedTuple, Tuple
 
 from common.program import run
 from common.report import Report
 from common.subject import Subject, new_folder, on_all
-from library.building import missing, shared_library
+from library.building import shared_library
+from library.own_lists import check_own_lists
+from library.serving import DICTIONARIES, HEAD, SECRET, answered, copy_module, sent, server, unavailable
 from traffic.servers import ports as free_ports
 
-SERVER, CLIENT = "freeradius", "radclient"
-MODULE = Path("/usr/lib/freeradius/rlm_python3.so")
-DICTIONARIES = Path("/usr/share/freeradius")
-SECRET = "testing123"
-SECONDS = 60
 SEED = 20_261_126
 REQUESTS = 40
-CONFIGURATION = """prefix = /usr
-confdir = {folder}
-modconfdir = {folder}/mods-config
-logdir = {folder}
-run_dir = {folder}
-libdir = /usr/lib/freeradius
-security {{
-	max_attributes = 200
-	reject_delay = 0
-	status_server = no
-}}
-client here {{
-	ipaddr = 127.0.0.1
-	secret = {secret}
-}}
-thread pool {{
-	start_servers = 4
-	max_servers = 4
-	min_spare_servers = 1
-	max_spare_servers = 4
-}}
-modules {{
+CONFIGURATION = HEAD + """modules {{
 	$INCLUDE {folder}/mods-available/radpolicy
 }}
 server default {{
@@ -236,11 +208,7 @@ class Ports(NamedTuple):
 
 def configure(subject: Subject, folder: Path, ports: Ports, is_shadow: bool) -> None:
     """The configuration of the example as it is to be copied, for the section `authorize`."""
-    example = subject.root / "examples" / "freeradius"
-    for name in ("mods-available", "mods-config/python3", "radpolicy"):
-        (folder / name).mkdir(parents=True, exist_ok=True)
-    shutil.copy(example / "radpolicy_module.py", folder / "mods-config" / "python3")
-    text = (example / "mods-available" / "radpolicy").read_text()
+    text = copy_module(subject, folder)
     line = next(line for line in text.splitlines(True) if line.strip().startswith("post-auth = "))
     text = text.replace(line, "".join(line.replace("post-auth", section) for section in ("authorize", "accounting")))
     text = text if is_shadow else text.replace("shadow = yes", "shadow = no")
@@ -250,42 +218,6 @@ def configure(subject: Subject, folder: Path, ports: Ports, is_shadow: bool) -> 
     (folder / "radiusd.conf").write_text(CONFIGURATION.format(
         folder=folder, port=ports.auth, accounting_port=ports.acct, secret=SECRET,
         authorize=SHADOWED if is_shadow else CALLED))
-
-
-@contextmanager
-def server(folder: Path, zone: str) -> Iterator[bool]:
-    """A server with threads; whether it is ready."""
-    log = folder / "log"
-    environment = {"PATH": "/usr/sbin:/usr/bin:/sbin:/bin", "TZ": zone, "LD_LIBRARY_PATH": str(folder),
-                   "PYTHONDONTWRITEBYTECODE": "1"}
-    command = [SERVER, "-fxx", "-l", "stdout", "-d", str(folder)]
-    with log.open("wb") as said, subprocess.Popen(command, stdout=said, stderr=said, env=environment) as running:
-        try:
-            end = time.monotonic() + SECONDS
-            while b"Ready to process requests" not in log.read_bytes():
-                if running.poll() is not None or time.monotonic() > end:
-                    break
-                time.sleep(0.1)
-            yield b"Ready to process requests" in log.read_bytes()
-        finally:
-            running.terminate()
-            try:
-                running.wait(SECONDS)
-            finally:
-                running.kill()
-
-
-def answered(port: int, lines: str, kind: str = "auth", seconds: int = SECONDS) -> str:
-    """What the client prints of the reply."""
-    command = [CLIENT, "-r", "1", "-t", str(seconds), "-x", f"127.0.0.1:{port}", kind, SECRET]
-    ended = subprocess.run(command, input=lines, text=True, capture_output=True, check=False,
-                           env={"PATH": "/usr/bin:/bin", "TZ": "UTC"}, errors="replace")
-    return ended.stdout.partition("Received ")[2]
-
-
-def sent(said: str) -> Tuple[str, List[str]]:
-    """The kind of the packet, and its attributes."""
-    return said.split(" ")[0], [line.strip() for line in said.splitlines()[1:] if line.startswith("\t")]
 
 
 def lists_of(subject: Subject, folder: Path, asked: Asked) -> Tuple[str, Dict[str, List[str]]]:
@@ -378,15 +310,6 @@ def check_told(report: Report, folder: Path, given: List[Asked]) -> None:
     report.check("the module as a shadow: it counts", [] if counts in log else [f"no line {counts!r}"])
 
 
-def unavailable(subject: Subject) -> Optional[str]:
-    """What is absent, in a few words."""
-    for name in (SERVER, CLIENT):
-        if shutil.which(name) is None:
-            return f"there is no {name}"
-    absent = [str(path) for path in (MODULE, DICTIONARIES / "dictionary") if not path.exists()]
-    return missing(subject) or (f"there is no {absent[0]}" if absent else None)
-
-
 def check(subject: Subject, report: Report) -> None:
     """All of it, where the library is built and the server is installed."""
     absent = unavailable(subject)
@@ -411,3 +334,4 @@ def check(subject: Subject, report: Report) -> None:
                     check_accounting(report, ports.acct)
             if is_ready and is_shadow:
                 check_told(report, folder, given)
+    check_own_lists(subject, report)

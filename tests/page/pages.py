@@ -9,6 +9,7 @@ from typing import Dict, List, NamedTuple, Tuple
 
 from common.report import Report
 from common.subject import Subject, new_folder
+from outputs.writers import OF_PAGE
 from page.browser import Browser, installed, new_browser
 
 WIDER = "# profile: wider\n"
@@ -187,7 +188,7 @@ def check_files(subject: Subject, report: Report, folder: Path) -> None:
     report.check("page without secrets", wrong)
     page_of(subject, made, "-o", "page.html")
     written = made.folder.joinpath("page.html").read_bytes()
-    report.check("page in a file", [] if written == page and not list(made.folder.glob("*.new")) else ["it is another"])
+    report.check("page in a file", [] if OF_PAGE.without_mark(written) == page else ["it is another"])
     report.check("page of fixed parts", faults_of_fixed_parts(subject, page))
     source = subject.root / "examples/transactions"
     page = page_of(subject, Made(source, ["-f", "request", "--policy", "policy", *files_of(subject)]))

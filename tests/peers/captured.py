@@ -50,9 +50,16 @@ OTHERS = r"""
 &User-Name == "%{1}"
 "%{1}" < "%{0}"
 """
-# An absent attribute ends the condition on a server, and here what comes after it captures.
-ENDED = '((&Calling-Station-Id == "x") || (&User-Name =~ /b(.)/)) && &Calling-Station-Id'
+# What captures otherwise here than on a server, and of which requests: rows of SERVER.md.
 NO_CALLER = set(REQUESTS) - {"two realms", "absent", "long"}
+BEGIN_WITH_B = {"plain", "dots", "two realms", "blanks", "two lines", "line at its end", "no text"}
+DIFFERENT = {
+    # An absent attribute ends the condition on a server, and here what comes after it captures.
+    '((&Calling-Station-Id == "x") || (&User-Name =~ /b(.)/)) && &Calling-Station-Id': NO_CALLER,
+    # What is repeated may be empty.
+    r"&User-Name =~ /^([a-z]*\.?)*/": BEGIN_WITH_B | {"signs"},
+    r"&User-Name =~ /(b*|o)*/": BEGIN_WITH_B,
+}
 
 
 def put(text: str) -> str:
@@ -112,12 +119,12 @@ def check_same(subject: Subject, report: Report) -> None:
         report.check(f"captured as on a server: {several[0]}", wrong if said else ["the server does not start"])
 
 
-def check_ended(subject: Subject, report: Report) -> None:
-    """A condition that is false on both, and captures here alone."""
-    said = answers(subject, [ENDED])
-    found = {name for name, (theirs, ours) in said.items() if theirs != ours}
-    wrong = [] if said and found == NO_CALLER else [f"the two differ in {sorted(found)}, not in {sorted(NO_CALLER)}"]
-    report.check("captured here, and not on a server", wrong)
+def check_different(subject: Subject, report: Report) -> None:
+    for condition, wanted in DIFFERENT.items():
+        said = answers(subject, [condition])
+        found = {name for name, (theirs, ours) in said.items() if theirs != ours}
+        wrong = [] if said and found == wanted else [f"the two differ in {sorted(found)}, not in {sorted(wanted)}"]
+        report.check(f"captured otherwise than on a server: {condition}", wrong)
 
 
 def check_refused(subject: Subject, report: Report) -> None:
@@ -134,5 +141,5 @@ def check(subject: Subject, report: Report) -> None:
         report.say(f"what is captured beside a server: not tried, there is no {SERVER} or no {CLIENT}")
         return
     check_same(subject, report)
-    check_ended(subject, report)
+    check_different(subject, report)
     check_refused(subject, report)

@@ -9,7 +9,7 @@ from common.program import run
 from common.report import Report
 from common.subject import Subject, new_folder, on_all
 from peers.client import CLIENT, SECRET, dictionaries_of
-from peers.wider import SECONDS, SERVER, configure, free_port, of_program, of_server, server
+from peers.wider import DICTIONARY, SECONDS, SERVER, configure, free_port, of_program, of_server, server
 
 # The names of requests, and their lines.
 REQUESTS = {
@@ -155,6 +155,11 @@ DIFFERENT = [
     Difference(r"&NAS-Identifier =~ /\x{e9}/", {"no text"}),
     Difference(r"&User-Name =~ /\v/", {"two lines", "line at its end"}),
     Difference(r"&User-Name =~ /(ab)++ab/", {"long"}),
+    Difference(r"&User-Name =~ /b{1, 2}/", set(REQUESTS) - {"absent"}),
+    Difference(r"&User-Name =~ /[[:<:]]bob/", BOBS),
+    Difference(r"&User-Name =~ /bob[[:>:]]/", BOBS),
+    Difference(r"&NAS-Identifier =~ /^[--a]/", {"dots", "backslash"}),
+    Difference(r"&NAS-Identifier =~ /[+--]/", {"realm"}),
     Difference(r"&Called-Station-Id =~ /(?x):a[ _]b/", {"plain"}),
     Difference(r"&NAS-Identifier =~ /100%%/", {"backslash"}),
     Difference(r"!(&Calling-Station-Id =~ /2/)", NO_CALLER),
@@ -270,6 +275,7 @@ def fault_of(subject: Subject, policy: str) -> str:
     """The number of the fault with which the policy is refused; none where it is taken."""
     with new_folder() as folder:
         (folder / "policy").write_text(written(policy))
+        (folder / "dictionary.local").write_text(DICTIONARY)
         words = ["check", "--policy", "policy", *dictionaries_of(subject, folder)]
         found = told(run([subject.program, *words], folder).errors)
         return found.number if found else ""

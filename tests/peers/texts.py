@@ -155,6 +155,8 @@ DIFFERENT = [
     Difference('!("%{User-Name}" == "x")', {"none"}),
     Difference('"-5%{reply:Class}" == "-05"', {"all", "some", "none"}),
     Difference('"-5%{reply:Class}" < "3"', {"all", "some", "none"}),
+    Difference('"%{Calling-Station-Id}-" == "-"', {"some", "none"}),
+    Difference('!("%{Calling-Station-Id}-" == "5")', {"some", "none"}),
     Difference('"18446744073709551616" == "18446744073709551617"', {"all", "some", "none"}),
     Difference('(&Class == 0x00) || ("%{User-Name}x" == "bobx")', {"some"}),
     Difference('!(&Class == "0x6%{NAS-Port}x")', {"all", "some", "none"}),

@@ -49,6 +49,8 @@ UPDATES = [
     [*MEDIA, "Tunnel-Medium-Type !* ANY"],
     [*MEDIA, "Tunnel-Medium-Type = IPv6"],
     [*MEDIA, "Tunnel-Medium-Type:4 = IPv6"],
+    ["Tunnel-Type:2 := &request:Attr-64", "Attr-65 := &request:Tunnel-Medium-Type:1"],
+    ["Tunnel-Type:01 := VLAN", 'Event-Timestamp := "Nov 04 2026 10:00:00 UTC"'],
     ["Tunnel-Type:5 := &request:Tunnel-Type", "Tunnel-Private-Group-Id := &request:Tunnel-Private-Group-Id:2"],
     ["Framed-IPv6-Prefix := 2001:db8:1:2:3::1/64", "Framed-Interface-Id := 1:2:3:4", "PMIP6-Home-IPv4-HoA := 10.0.0.0/8"],
     ["Login-IPv6-Host := 2001:db8:0:0:1::", 'Event-Timestamp := "Nov  4 2026 10:00:00 UTC"'],

@@ -128,7 +128,8 @@ fn main(rt: HostRuntime) -> io::Result<()> {
     let [_, path] = words.as_slice() else {
         return print_file(&rt);
     };
-    let files = SystemFiles::new(&rt);
+    let named = [path.as_str()];
+    let files = SystemFiles::new(&rt, &named);
     match read_configuration(rt.alloc(), &files, path.as_bytes()) {
         Ok(read) => print_configuration(&rt, &read),
         Err(fault) => print_fault(&rt, &fault),

@@ -2,7 +2,7 @@
 
 use avp_dict::Dictionary;
 use avp_lists::{AttrId, Pair, Value};
-use radpolicy_common::{SecretValues, change_lines, changes};
+use radpolicy_common::{Hiding, Redaction, SecretValues, change_lines, changes};
 use samples::{all_fit, octets, test_dictionary};
 use std::alloc::Global;
 use std::test::Fail;
@@ -32,7 +32,12 @@ fn lines_between(
         return Err(Fail::new("a pair does not fit"));
     }
     let found = changes(alloc, before, after)?;
-    Ok(change_lines(alloc, dictionary, found.as_slice(), secrets)?)
+    let hiding = Hiding {
+        secrets,
+        given: &[],
+    };
+    let redaction = Redaction::new(alloc, dictionary, hiding, &[])?;
+    Ok(change_lines(alloc, &redaction, found.as_slice())?)
 }
 
 #[test]

@@ -56,8 +56,8 @@ pub(crate) struct Watcher<'a> {
     obeyed_ids: Vec<AttrId>,
 }
 
-// The attributes of these names that a dictionary has.
-fn ids_of(
+/// The attributes of these names that a dictionary has.
+pub(crate) fn ids_of(
     alloc: Global,
     dictionary: &Dictionary,
     names: &[&str],

@@ -29,6 +29,7 @@ pub(crate) fn policy_help(alloc: Global, policy: &[u8]) -> Result<Vec<u8>, Fail>
         script: nothing,
         secret: "",
         is_request_wider: false,
+        hidden: &[],
     };
     let dictionary = samples::test_dictionary(alloc)?;
     match avp_unlang::read_policy(alloc, &dictionary, policy) {

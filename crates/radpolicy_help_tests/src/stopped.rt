@@ -38,6 +38,7 @@ fn told(alloc: Global, policy: &[u8]) -> Result<Vec<u8>, Fail> {
         script: nothing,
         secret: "",
         is_request_wider: false,
+        hidden: &[],
     };
     Ok(stop_text(alloc, &sources, &job)?)
 }

@@ -22,6 +22,7 @@ fn warned(alloc: Global, policy: &[u8]) -> Result<Vec<u8>, Fail> {
         script: nothing,
         secret: "",
         is_request_wider: false,
+        hidden: &[],
     };
     Ok(warnings_text(alloc, &sources)?)
 }

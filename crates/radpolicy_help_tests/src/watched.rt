@@ -38,6 +38,7 @@ fn is_warned(alloc: Global, policy: &[u8], line: &[u8]) -> Result<bool, Fail> {
         script: nothing,
         secret: "",
         is_request_wider: false,
+        hidden: &[],
     };
     let text = warnings_text(alloc, &sources)?;
     let lines = text.iter().filter(|octet| **octet == b'\n').count();

@@ -1,9 +1,6 @@
 //! What becomes of the statements of a server.
 
-use crate::drafts::{
-    Draft, DraftCondition, DraftPart, DraftWarning, code_name, push_visible, section_name,
-    shown_item,
-};
+use crate::drafts::{Draft, DraftCondition, DraftPart, DraftWarning, code_name, section_name};
 use crate::faults::{ImportFault, reason_of};
 use crate::item_readers::{ItemReader, PairLines, condition_of};
 use crate::origins::origin_of;
@@ -12,10 +9,12 @@ use crate::statements::{Statement, StatementKind, counted};
 use crate::tagged_lines::TaggedLines;
 use avp_forms::Profile;
 use avp_lists::List;
+use radpolicy_common::{LineBreaks, visible_text};
 use radpolicy_import_conditions::{
     ChosenLine, Difference, KnownCodes, PatternDifference, Reason, ServerCode, ServerList,
     SwitchChain, UpdateLine, between, list_name,
 };
+use radpolicy_import_texts::carried_policy;
 use std::alloc::AllocError;
 
 /// Makes lines of a policy.
@@ -149,13 +148,13 @@ impl<'a> Importer<'a> {
 
     fn comment(&mut self, place: usize, word: &[u8], text: &[u8]) -> Result<(), ImportFault> {
         let mut line = between(self.reader.alloc, b"# ", word, b" ")?;
-        push_visible(&mut line, text)?;
+        line.extend_from_slice(&visible_text(self.reader.alloc, text, LineBreaks::Escaped)?)?;
         self.push(place, line)
     }
 
     // What the item at a place says, as a comment.
     fn comment_item(&mut self, place: usize, word: &[u8]) -> Result<(), ImportFault> {
-        let shown = shown_item(self.reader.alloc, self.reader.configuration, place)?;
+        let shown = self.reader.shown(place)?;
         self.comment(place, word, &shown)
     }
 
@@ -164,7 +163,7 @@ impl<'a> Importer<'a> {
         if self.begun == 0 {
             return Ok(());
         }
-        let shown = shown_item(self.reader.alloc, self.reader.configuration, place)?;
+        let shown = self.reader.shown(place)?;
         let line = between(self.reader.alloc, b"# ", &shown, b"")?;
         self.push(place, line)
     }
@@ -177,7 +176,7 @@ impl<'a> Importer<'a> {
         reason: Reason,
     ) -> Result<(), ImportFault> {
         let why = format!(in self.reader.alloc; "{reason}")?;
-        let shown = shown_item(self.reader.alloc, self.reader.configuration, place)?;
+        let shown = self.reader.shown(place)?;
         let mut line = between(self.reader.alloc, b"# left out, ", why.as_bytes(), b": ")?;
         line.extend_from_slice(&shown)?;
         self.push(place, line)?;
@@ -448,7 +447,9 @@ impl<'a> Importer<'a> {
             let reason = reason_of(refusal)?;
             return self.leave(place, 0, reason);
         }
-        for line in policy.split(|octet| *octet == b'\n') {
+        let hidden = self.reader.settings.hidden;
+        let carried = carried_policy(self.reader.alloc, hidden, policy)?;
+        for line in carried.split(|octet| *octet == b'\n') {
             self.push_text(place, line)?;
         }
         self.codes = KnownCodes::unknown();

@@ -19,8 +19,9 @@ use radpolicy_import_conditions::{
     expansions_in, has_choices, has_pattern, keeps_captures, list_name, parts_of, rewritten, says,
     uses_captures,
 };
+use radpolicy_import_texts::shown_item;
 use server_configuration::{Configuration, Content, Operator, Quote, Text, has_reference};
-use std::alloc::Global;
+use std::alloc::{AllocError, Global};
 
 /// What becomes of a line of an update.
 #[derive(Drop)]
@@ -54,6 +55,11 @@ pub(crate) struct ItemReader<'a> {
 }
 
 impl<'a> ItemReader<'a> {
+    /// What is shown of the item at a place.
+    pub(crate) fn shown(&self, place: usize) -> Result<Vec<u8>, AllocError> {
+        shown_item(self.alloc, self.settings.hidden, self.configuration, place)
+    }
+
     // A text of the item at a place, with its references filled in.
     fn filled(&self, place: usize, text: &[u8]) -> Result<Vec<u8>, Refusal> {
         if !has_reference(text) {

@@ -86,6 +86,7 @@ pub(crate) fn settings_of(profile: Profile) -> Settings<'static> {
         codes: KnownCodes::unknown(),
         section: SectionKind::Access,
         initial: 0,
+        hidden: None,
     }
 }
 
@@ -243,6 +244,7 @@ fn an_answer_for_a_module(rt: HostRuntime) -> Result<(), Fail> {
         codes: KnownCodes::unknown(),
         section: SectionKind::Access,
         initial: 0,
+        hidden: None,
     };
     assert!(rt;
         is_imported_by(
@@ -340,6 +342,7 @@ fn mapped(alloc: Global, text: &[u8]) -> Result<(Vec<u8>, Vec<u8>), Fail> {
         codes: KnownCodes::unknown(),
         section: SectionKind::Access,
         initial: 0,
+        hidden: None,
     };
     let configuration = configuration(alloc, text)?;
     let imported = imported(alloc, &dictionary, settings, text)?;

@@ -37,6 +37,7 @@ fn with_initial(
         codes: KnownCodes::unknown(),
         section: SectionKind::Access,
         initial: count,
+        hidden: None,
     };
     let made = import_statements(alloc, &read, dictionary, settings, statements.as_slice());
     Ok((read, made))
@@ -95,7 +96,11 @@ fn what_is_wanted(rt: HostRuntime) -> Result<(), Fail> {
     let Ok(imported) = made else {
         return Err(Fail::new("no policy"));
     };
-    let text = initial_template(rt.alloc(), &read, &dictionary, &imported, &[])?;
+    let names = Names {
+        dictionary: &dictionary,
+        others: &[],
+    };
+    let text = initial_template(rt.alloc(), &read, names, None, &imported)?;
     let wanted = b"# main:2\n#control:User-Name = \n# main:4\n#reply:Class = \n";
     assert_eq!(rt; text.as_slice(), wanted.as_slice());
     Ok(())

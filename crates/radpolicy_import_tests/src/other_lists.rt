@@ -110,6 +110,7 @@ fn policy(alloc: Global, dictionary: &Dictionary) -> Result<(Imported, usize), F
         codes: KnownCodes::unknown(),
         section: SectionKind::Access,
         initial: 0,
+        hidden: None,
     };
     let imported = imported(alloc, dictionary, settings, CONFIGURATION)?;
     let unset = unset_attributes(alloc, dictionary, &imported.policy, &others)?.len();
@@ -170,6 +171,7 @@ fn policy_by(alloc: Global, modules: &[Module], text: &[u8]) -> Result<(Vec<u8>,
         codes: KnownCodes::unknown(),
         section: SectionKind::PostAuth,
         initial: 0,
+        hidden: None,
     };
     let imported = imported(alloc, &dictionary, settings, text)?;
     let unset = unset_attributes(alloc, &dictionary, &imported.policy, &others)?.len();

@@ -34,6 +34,7 @@ fn sources_of<'a>(plan: &'a Plan<'a>, files: &'a Files, fault: &Fault) -> Source
         dictionaries: &plan.dictionaries,
         request: lines_with(plan, files, fault),
         is_request_wider: false,
+        hidden: &plan.hidden,
         policy: Source {
             path: plan.policy,
             text: files.policy.as_slice(),

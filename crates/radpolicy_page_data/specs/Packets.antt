@@ -10,9 +10,9 @@ use Rattle.avp_dict.specs.Dictionary.{Dictionary}
 use Rattle.avp_dict.specs.Names.{Described, described}
 use Rattle.radpolicy.specs.declared.run_outcomes.Reply.{Reply}
 use Rattle.radpolicy.specs.declared.run_outcomes.Reply.TheVariants as reply
-use Rattle.radpolicy_common.specs.declared.change_texts.SecretValues.TheVariants.{Hidden, Shown}
+use Rattle.radpolicy_common.specs.declared.redactions.SecretValues.TheVariants.{Hidden, Shown}
 use Rattle.radpolicy_page_data.specs.Embedding.{string_text, two_digits}
-use Rattle.radpolicy_page_data.specs.Secrets.{Redaction, hides, is_among}
+use Rattle.radpolicy_common.specs.Secrets.{Redaction, hides, is_among}
 use Rattle.radpolicy_page_data.specs.declared.packets.Spot.{Spot}
 use Rattle.radpolicy_page_data.specs.declared.packets.Spot.TheVariants as spot
 

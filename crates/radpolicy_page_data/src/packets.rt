@@ -7,10 +7,9 @@ ghost use Rattle.radpolicy_page_data.specs.declared.packets.Spot.TheVariants as 
 ghost use Rattle.radpolicy_page_data.specs.Packets.{hides_type, is_hidden_as, octet_at, reply_text, row_octet, rows_from, shown_octet, spot_after, type_name, type_of};
 
 use crate::json::{push_number, push_string, push_two_digits};
-use crate::redactions::Redaction;
 use avp_lists::{AttrId, Pair};
 use radpolicy::Reply;
-use radpolicy_common::SecretValues;
+use radpolicy_common::{Redaction, SecretValues};
 use std::alloc::AllocError;
 
 /// A spot in a packet.
@@ -39,30 +38,30 @@ fn type_of(id: AttrId) -> u32
     }
 }
 
-impl Redaction<'_> {
-    fn is_hidden_as(&self, kind: u8, pair: &Pair) -> bool
-        ensures { result ≡ is_hidden_as self.now kind pair.now }
-    {
-        type_of(pair.id) == u32::from(kind) && self.hides(pair.id, &pair.value)
-    }
+fn is_hidden_as(redaction: &Redaction<'_>, kind: u8, pair: &Pair) -> bool
+    ensures { result ≡ is_hidden_as redaction.now kind pair.now }
+{
+    type_of(pair.id) == u32::from(kind) && redaction.hides(pair.id, &pair.value)
+}
 
-    fn is_any_hidden_as(&self, kind: u8, replied: &[Pair]) -> bool
-        ensures { result ≡ list_any (is_hidden_as self.now kind) replied.now }
-    {
-        replied.iter().any(|pair| self.is_hidden_as(kind, pair))
-    }
+fn is_any_hidden_as(redaction: &Redaction<'_>, kind: u8, replied: &[Pair]) -> bool
+    ensures { result ≡ list_any (is_hidden_as redaction.now kind) replied.now }
+{
+    replied
+        .iter()
+        .any(|pair| is_hidden_as(redaction, kind, pair))
+}
 
-    // Whether attributes of a type are hidden.
-    #[tactic(auto, unfolding(crate::specs::Packets::hides_type))]
-    fn hides_type(&self, replied: &[Pair], kind: u8) -> bool
-        ensures { result ≡ hides_type self.now replied.now kind }
-    {
-        match self.secrets() {
-            SecretValues::Shown => false,
-            SecretValues::Hidden => {
-                self.is_secret(AttrId::Plain(u32::from(kind)))
-                    || self.is_any_hidden_as(kind, replied)
-            }
+// Whether attributes of a type are hidden.
+#[tactic(auto, unfolding(crate::specs::Packets::hides_type))]
+fn hides_type(redaction: &Redaction<'_>, replied: &[Pair], kind: u8) -> bool
+    ensures { result ≡ hides_type redaction.now replied.now kind }
+{
+    match redaction.secrets() {
+        SecretValues::Shown => false,
+        SecretValues::Hidden => {
+            redaction.is_secret(AttrId::Plain(u32::from(kind)))
+                || is_any_hidden_as(redaction, kind, replied)
         }
     }
 }
@@ -165,7 +164,7 @@ fn spot_after(redaction: &Redaction<'_>, replied: &[Pair], at: Spot, octet: u8) 
         Spot::Head(_) => Spot::Authenticator(0),
         Spot::Authenticator(place) if place < 15 => Spot::Authenticator(place + 1),
         Spot::Authenticator(_) => Spot::Type,
-        Spot::Type => Spot::Length(redaction.hides_type(replied, octet)),
+        Spot::Type => Spot::Length(hides_type(redaction, replied, octet)),
         Spot::Length(_) if octet <= 2 => Spot::Type,
         Spot::Length(hidden) => Spot::Value(octet - 2, hidden),
         Spot::Value(left, _) if left <= 1 => Spot::Type,

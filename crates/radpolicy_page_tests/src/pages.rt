@@ -4,7 +4,7 @@ use avp_dict::Dictionary;
 use avp_forms::Profile;
 use avp_lists::Octets;
 use radpolicy::{PreparedPolicy, Reply, RequestHead, RequestKind, Start};
-use radpolicy_common::SecretValues;
+use radpolicy_common::{Hiding, SecretValues};
 use radpolicy_page_data::{Page, page_of};
 use samples::test_dictionary;
 use std::alloc::Global;
@@ -28,7 +28,8 @@ fn page_by(
     let dictionary: Dictionary = test_dictionary(alloc)?;
     let prepared = PreparedPolicy::read(alloc, &dictionary, policy)?;
     let start = Start::of_lines(alloc, &prepared, None, HEAD, Profile::Plain, None, REQUEST)?;
-    Ok(page_of(alloc, start, reply, policy, secrets)?)
+    let given = &[];
+    Ok(page_of(alloc, start, reply, policy, Hiding { secrets, given })?)
 }
 
 fn data_of(alloc: Global, policy: &[u8], secrets: SecretValues) -> Result<Vec<u8>, Fail> {

@@ -1,18 +1,28 @@
 //! What is shown of policies' texts.
 
 use avp_dict::Dictionary;
+use avp_unlang::Policy;
 use radpolicy::PreparedPolicy;
-use radpolicy_common::SecretValues;
-use radpolicy_page_data::{Redaction, policy_shown};
+use radpolicy_common::{Hiding, Redaction, SecretValues, policy_shown};
 use samples::test_dictionary;
-use std::alloc::Global;
+use std::alloc::{AllocError, Global};
 use std::test::Fail;
+
+fn redaction_of<'a>(
+    alloc: Global,
+    dictionary: &'a Dictionary,
+    policy: &Policy,
+    secrets: SecretValues,
+) -> Result<Redaction<'a>, AllocError> {
+    let given = &[];
+    Redaction::new(alloc, dictionary, Hiding { secrets, given }, &[policy])
+}
 
 // What is shown of a policy.
 fn shown(alloc: Global, policy: &[u8], secrets: SecretValues) -> Result<Vec<u8>, Fail> {
     let dictionary: Dictionary = test_dictionary(alloc)?;
     let prepared = PreparedPolicy::read(alloc, &dictionary, policy)?;
-    let redaction = Redaction::new(alloc, &dictionary, prepared.policy(), secrets)?;
+    let redaction = redaction_of(alloc, &dictionary, prepared.policy(), secrets)?;
     Ok(policy_shown(alloc, &redaction, policy)?)
 }
 
@@ -52,8 +62,8 @@ if (&User-Password =~ /a \"b#\\/c/i && &User-Name !~ /\"#/ && &User-Password != 
 if (&User-Name =~ /User-Password == a/ && &User-Password !~\t/x y/) { ok }
 ";
     let wanted = b"# profile: wider
-if (&User-Password =~ (hidden)i && &User-Name !~ /\"#/ && &User-Password != (hidden)) { ok }
-if (&User-Name =~ /User-Password == a/ && &User-Password !~\t(hidden)) { ok }
+if (&User-Password =~ (hidden) && &User-Name !~ /\"#/ && &User-Password != (hidden)) { ok }
+if (&User-Name =~ /User-Password == a/ && &User-Password !~ (hidden)) { ok }
 ";
     assert_eq!(&rt;
         shown(rt.alloc(), policy, SecretValues::Hidden)?.as_slice(),

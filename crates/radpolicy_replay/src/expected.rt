@@ -1,7 +1,8 @@
 //! An earlier output, with which this one is compared.
 
+use crate::places::{refuse_unread, shown};
 use radpolicy::Fault;
-use radpolicy_common::{LineBreaks, Unread, refuse_early, refuse_unread, visible_text};
+use radpolicy_common::{Unread, refuse_early};
 use std::alloc::{AllocError, Global};
 use std::fs::File;
 use std::io;
@@ -29,12 +30,9 @@ pub fn open_expected<'a>(
 }
 
 // A line as it is shown.
-fn shown(alloc: Global, line: &Option<Vec<u8>>) -> Result<String, AllocError> {
+fn shown_line(alloc: Global, line: &Option<Vec<u8>>) -> Result<String, AllocError> {
     match line {
-        Some(octets) => {
-            let visible = visible_text(alloc, octets, LineBreaks::Escaped)?;
-            String::from_utf8_lossy(alloc, &visible)
-        }
+        Some(octets) => shown(alloc, octets),
         None => String::from_str(alloc, "(no line)"),
     }
 }
@@ -42,8 +40,9 @@ fn shown(alloc: Global, line: &Option<Vec<u8>>) -> Result<String, AllocError> {
 // Says which line differs.
 fn show_other(rt: &HostRuntime, path: &str, other: &OtherLine) -> Result<(), AllocError> {
     let number = other.number;
-    let expected = shown(rt.alloc(), &other.earlier)?;
-    let now = shown(rt.alloc(), &other.current)?;
+    let path = shown(rt.alloc(), path.as_bytes())?;
+    let expected = shown_line(rt.alloc(), &other.earlier)?;
+    let now = shown_line(rt.alloc(), &other.current)?;
     // Lines may differ in what is not shown.
     let how = if expected.as_str() == now.as_str() {
         ", but for its end"

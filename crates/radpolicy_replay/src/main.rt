@@ -3,9 +3,12 @@
 
 mod client_help;
 mod command_line;
+mod counted_lines;
 mod counters;
 mod expected;
 mod json_summaries;
+mod log_watches;
+mod places;
 mod secrets;
 mod streams;
 mod summaries;
@@ -17,24 +20,25 @@ ghost use Rattle.avp_dict.specs.Lines.{HasDistinctNames};
 ghost use Rattle.radpolicy.specs.Faults.{IsPrintedAnywhere, IsPrintedWith};
 
 use crate::command_line::{Asked, Plan, SecretPlan, help_text, read_words};
+use crate::counted_lines::PolicyTexts;
 use crate::counters::{CountedLines, CountedRecords, Counter};
 use crate::expected::{DIFFERENT, expected_status, open_expected};
+use crate::places::{FileLine, refuse_in, refuse_unread};
 use crate::secrets::{HeldSecrets, held_secrets, read_secret};
 use crate::streams::{flush, refuse_replay, write_text};
-use crate::summaries::{Ended, PolicyTexts, show_summary};
+use crate::summaries::{Ended, show_summary};
 use crate::to_hex::write_packets;
 use crate::traffic::{Traffic, read_beginning};
 use avp_dict::{Dictionary, FileSet};
 use avp_lists::{AttrId, Octets};
 use radpolicy::{Fault, PreparedPolicy, status};
-use radpolicy_common::{Unread, read_dictionary_set, read_file, refuse_early};
-use radpolicy_help::{
-    Source, Sources, explain_name, refuse_explained, refuse_unread_explained, refuse_words_of,
-    tell_help,
+use radpolicy_common::{
+    Hiding, Redaction, Unread, named_attributes, read_dictionary_set, read_file, refuse_early,
 };
+use radpolicy_help::{Source, Sources, refuse_name, refuse_words_of};
 use radpolicy_record_answers::{Against, Comparison};
 use radpolicy_replay_records::{Layout, RecordReader, Records, Replay, ReplayFault, Summary};
-use std::alloc::{AllocError, Global};
+use std::alloc::Global;
 use std::fs::File;
 use std::io;
 use std::io::{BufReader, BufWriter, Read, Write};
@@ -91,6 +95,7 @@ fn run_lines<R: Read + Drop, W: Write>(
 ) -> Result<Ended, ReplayFault> {
     let ended = replay.run(rt.alloc(), &mut lines, out);
     lines.counter.clear();
+    lines.log.tell(rt);
     let summary = ended?;
     Ok(Ended {
         rate: lines.counter.rate(summary.read),
@@ -213,30 +218,6 @@ fn replay_input(
     }
 }
 
-// The attributes of these names, up to the first that the dictionary does not have.
-fn named_attributes<'a>(
-    alloc: Global,
-    dictionary: &Dictionary,
-    names: &[&'a str],
-) -> Result<Result<Vec<AttrId>, &'a str>, AllocError> {
-    let mut ids = Vec::new(alloc);
-    for name in names {
-        match dictionary.by_name(name.as_bytes()) {
-            Some(named) => ids.push(named.id)?,
-            None => return Ok(Err(*name)),
-        }
-    }
-    Ok(Ok(ids))
-}
-
-// A name that is no attribute's, with the name.
-fn refuse_name(rt: &HostRuntime, dictionary: &Dictionary, name: &str) -> u8 {
-    let fault = Fault::OptionValue;
-    let _ = eprintln!(rt; "radpolicy: E02 {name}: {fault}");
-    tell_help(rt, explain_name(rt.alloc(), dictionary, name));
-    status(&fault)
-}
-
 // The policy whose file is read.
 #[derive(Clone, Copy)]
 enum Reading {
@@ -244,24 +225,18 @@ enum Reading {
     Old,
 }
 
-// The policy that answers are compared with, if they are. The name of its file is said before what is wrong with it.
+// The policy that answers are compared with, if they are.
 fn read_against<'a>(
-    rt: &HostRuntime,
+    alloc: Global,
     dictionary: &'a Dictionary,
     plan: &Plan<'_>,
     text: &[u8],
 ) -> Result<Option<PreparedPolicy<'a>>, Fault>
     ensures { IfErr result IsPrintedAnywhere }
 {
-    let Some(path) = plan.old_policy() else {
-        return Ok(None);
-    };
-    match PreparedPolicy::read(rt.alloc(), dictionary, text) {
-        Ok(policy) => Ok(Some(policy)),
-        Err(fault) => {
-            let _ = eprintln!(rt; "radpolicy-replay: {path}:");
-            Err(fault)
-        }
+    match plan.old_policy() {
+        Some(_) => Ok(Some(PreparedPolicy::read(alloc, dictionary, text)?)),
+        None => Ok(None),
     }
 }
 
@@ -291,10 +266,12 @@ fn comparison_of<'a>(
     })
 }
 
-// What a plan says beside its policies: the secrets, and the attributes that are left out where replies are compared.
+// What a plan says beside its policies: the secrets, the attributes that are left out where replies are compared, and
+// those that are hidden besides.
 struct Settings<'a> {
     secrets: HeldSecrets<'a>,
     ignored: Vec<AttrId>,
+    hidden: Vec<AttrId>,
 }
 
 // As a function, so that where settings are dropped a proof sees one step.
@@ -303,6 +280,7 @@ impl<'a> Drop for Settings<'a> {
         let Settings {
             secrets: _,
             ignored: _,
+            hidden: _,
         } = self;
     }
 }
@@ -320,10 +298,35 @@ fn settings_of<'a>(
         Ok(secrets) => secrets,
         Err(status) => return Ok(Err(status)),
     };
-    match named_attributes(rt.alloc(), dictionary, ignored_names(plan))? {
-        Ok(ignored) => Ok(Ok(Settings { secrets, ignored })),
+    let ignored = match named_attributes(rt.alloc(), dictionary, ignored_names(plan))? {
+        Ok(ignored) => ignored,
+        Err(name) => return Ok(Err(refuse_name(rt, dictionary, name))),
+    };
+    match named_attributes(rt.alloc(), dictionary, &plan.hidden)? {
+        Ok(hidden) => Ok(Ok(Settings {
+            secrets,
+            ignored,
+            hidden,
+        })),
         Err(name) => Ok(Err(refuse_name(rt, dictionary, name))),
     }
+}
+
+// What is hidden, by the flows of the policies.
+fn redaction_of<'a>(
+    alloc: Global,
+    dictionary: &'a Dictionary,
+    hiding: Hiding<'_>,
+    policy: &PreparedPolicy<'_>,
+    against: &Option<PreparedPolicy<'_>>,
+) -> Result<Redaction<'a>, Fault>
+    ensures { IfErr result IsPrintedAnywhere }
+{
+    let redaction = match against {
+        Some(old) => Redaction::new(alloc, dictionary, hiding, &[policy.policy(), old.policy()])?,
+        None => Redaction::new(alloc, dictionary, hiding, &[policy.policy()])?,
+    };
+    Ok(redaction)
 }
 
 // What is read of the files, and the replay by it. Which policy is read last is kept.
@@ -341,21 +344,27 @@ fn replay_by(
     let dictionary = Dictionary::read(rt.alloc(), &files.dictionary)?;
     let policy = PreparedPolicy::read(rt.alloc(), &dictionary, files.policy.as_slice())?;
     *reading = Reading::Old;
-    let against = read_against(rt, &dictionary, plan, files.against.as_slice())?;
+    let against = read_against(rt.alloc(), &dictionary, plan, files.against.as_slice())?;
     let settings = match settings_of(rt, plan, &dictionary, files.secret.as_slice())? {
         Ok(settings) => settings,
         Err(status) => return Ok(status),
     };
+    let hiding = Hiding {
+        secrets: plan.secrets,
+        given: &settings.hidden,
+    };
+    let redaction = redaction_of(rt.alloc(), &dictionary, hiding, &policy, &against)?;
     let replay = Replay {
         policy: &policy,
         shared: settings.secrets.shared(),
         comparison: comparison_of(plan, &against, &settings.ignored),
-        secrets: plan.secrets,
+        redaction: &redaction,
         layout: plan.layout,
     };
     let texts = PolicyTexts {
         new: files.policy.as_slice(),
         old: files.against.as_slice(),
+        redaction: &redaction,
     };
     Ok(replay_input(rt, plan, texts, &replay, earlier))
 }
@@ -385,9 +394,26 @@ fn sources_of<'a>(plan: &'a Plan<'a>, files: &'a Files, reading: Reading) -> Sou
         dictionaries: &plan.dictionaries,
         request: nothing,
         is_request_wider: false,
+        hidden: &plan.hidden,
         policy: policy_source(plan, files, reading),
         script: nothing,
         secret: plan.secret.path(),
+    }
+}
+
+// The line that a fault is of, where its file is not the policy's.
+fn place_of<'a>(
+    plan: &Plan<'a>,
+    files: &'a Files,
+    fault: &Fault,
+    reading: Reading,
+) -> Option<FileLine<'a>> {
+    match (reading, fault) {
+        (Reading::Old, Fault::Policy(found)) => Some(FileLine {
+            file: plan.old_policy()?.as_bytes(),
+            line: found.line,
+        }),
+        _ => FileLine::in_dictionary(fault, &files.dictionary),
     }
 }
 
@@ -402,17 +428,18 @@ fn refuse_files(
     requires { IsPrintedWith files.now.dictionary fault.now }
 {
     let sources = sources_of(plan, files, reading);
-    refuse_explained(rt, fault, &files.dictionary, &sources)
+    let place = place_of(plan, files, fault, reading);
+    refuse_in(rt, fault, place, &files.dictionary, &sources)
 }
 
 fn replay_plan(rt: &HostRuntime, plan: &Plan<'_>) -> u8 {
     let files = match read_files(rt, plan) {
         Ok(files) => files,
-        Err(unread) => return refuse_unread_explained(rt, unread),
+        Err(unread) => return refuse_unread(rt, unread),
     };
     let earlier = match open_expected(rt, plan.expected) {
         Ok(earlier) => earlier,
-        Err(unread) => return refuse_unread_explained(rt, unread),
+        Err(unread) => return refuse_unread(rt, unread),
     };
     let mut reading = Reading::New;
     match replay_by(rt, plan, &files, earlier, &mut reading) {

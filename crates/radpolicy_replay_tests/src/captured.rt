@@ -1,10 +1,10 @@
 //! What is told of records whose answers are compared with the replies that were captured.
 
-use crate::replays::{count_by, counts_of};
+use crate::replays::{count_by, counts_of, redaction_of};
 use avp_dict::Dictionary;
 use radpolicy::{PreparedPolicy, Secret};
 use radpolicy_changing_lines::PolicyLine;
-use radpolicy_common::SecretValues;
+use radpolicy_common::{Redaction, SecretValues};
 use radpolicy_record_answers::{Against, Comparison, Order, Told};
 use radpolicy_replay_records::{Layout, Replay, SharedSecrets, Summary};
 use samples::test_dictionary;
@@ -36,6 +36,7 @@ request 0207001400112233445566778899aabbccddeeff 0307001483111e9861b83e3085b2622
 pub(crate) fn replay_captured<'a>(
     policy: &'a PreparedPolicy<'a>,
     shared: SharedSecrets<'a>,
+    redaction: &'a Redaction<'a>,
     order: Order,
     told: Told,
 ) -> Replay<'a> {
@@ -51,7 +52,7 @@ pub(crate) fn replay_captured<'a>(
         policy,
         shared,
         comparison,
-        secrets: SecretValues::Hidden,
+        redaction,
         layout: Layout::Plain,
     }
 }
@@ -61,7 +62,9 @@ fn told(alloc: Global, order: Order, told: Told) -> Result<(Vec<u8>, Summary), F
     let dictionary: Dictionary = test_dictionary(alloc)?;
     let policy = PreparedPolicy::read(alloc, &dictionary, POLICY)?;
     let secret = Secret::new(b"testing123")?;
-    let replay = replay_captured(&policy, SharedSecrets::One(&secret), order, told);
+    let redaction = redaction_of(alloc, &dictionary, SecretValues::Hidden, &policy)?;
+    let shared = SharedSecrets::One(&secret);
+    let replay = replay_captured(&policy, shared, &redaction, order, told);
     let mut input = RECORDS;
     let mut out = Vec::new(alloc);
     let summary = replay.run(alloc, &mut input, &mut out)?;

@@ -1,5 +1,6 @@
 //! The lists of the replies that were captured.
 
+use crate::replays::redaction_of;
 use avp_dict::Dictionary;
 use radpolicy::{PreparedPolicy, Secret};
 use radpolicy_common::SecretValues;
@@ -39,11 +40,12 @@ fn told(alloc: Global, layout: Layout, told: Told) -> Result<Vec<u8>, Fail> {
     let policy = PreparedPolicy::read(alloc, &dictionary, POLICY)?;
     let secret = Secret::new(b"testing123")?;
     let shared = SharedSecrets::One(&secret);
+    let redaction = redaction_of(alloc, &dictionary, SecretValues::Hidden, &policy)?;
     let replay = Replay {
         policy: &policy,
         shared,
         comparison: Some(shown(told)),
-        secrets: SecretValues::Hidden,
+        redaction: &redaction,
         layout,
     };
     let (mut input, mut out) = (RECORDS, Vec::new(alloc));

@@ -1,11 +1,11 @@
 //! What is told of records that two policies answer, and how many there are of each kind.
 
-use crate::replays::{count_by, counts_of};
+use crate::replays::{count_by, counts_of, redaction_of};
 use avp_dict::Dictionary;
 use avp_lists::AttrId;
 use radpolicy::{PreparedPolicy, Secret};
 use radpolicy_changing_lines::PolicyLine;
-use radpolicy_common::SecretValues;
+use radpolicy_common::{Redaction, SecretValues};
 use radpolicy_record_answers::{Against, Comparison, Order, Told};
 use radpolicy_replay_records::{Layout, Replay, SharedSecrets, Summary};
 use samples::test_dictionary;
@@ -48,6 +48,7 @@ pub(crate) fn replay_against<'a>(
     policy: &'a PreparedPolicy<'a>,
     old: &'a PreparedPolicy<'a>,
     secret: &'a Secret<'a>,
+    redaction: &'a Redaction<'a>,
     asked: Asked,
 ) -> Replay<'a> {
     let against = Against::Policy(old);
@@ -63,7 +64,7 @@ pub(crate) fn replay_against<'a>(
         policy,
         shared,
         comparison,
-        secrets: SecretValues::Hidden,
+        redaction,
         layout: Layout::Plain,
     }
 }
@@ -74,7 +75,8 @@ fn told(alloc: Global, asked: Asked) -> Result<(Vec<u8>, Summary), Fail> {
     let policy = PreparedPolicy::read(alloc, &dictionary, NEW)?;
     let old = PreparedPolicy::read(alloc, &dictionary, OLD)?;
     let secret = Secret::new(b"testing123")?;
-    let replay = replay_against(&policy, &old, &secret, asked);
+    let redaction = redaction_of(alloc, &dictionary, SecretValues::Hidden, &policy)?;
+    let replay = replay_against(&policy, &old, &secret, &redaction, asked);
     let mut input = RECORDS;
     let mut out = Vec::new(alloc);
     let summary = replay.run(alloc, &mut input, &mut out)?;

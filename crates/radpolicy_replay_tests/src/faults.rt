@@ -1,6 +1,6 @@
 //! Inputs that cannot be read to their end, and outputs that are too small.
 
-use crate::replays::replay_alone;
+use crate::replays::{redaction_of, replay_alone};
 use avp_dict::Dictionary;
 use radpolicy::{PreparedPolicy, Secret};
 use radpolicy_common::SecretValues;
@@ -37,7 +37,8 @@ fn replay_by<R: Read, W: Write>(
     let dictionary: Dictionary = test_dictionary(alloc)?;
     let policy = PreparedPolicy::read(alloc, &dictionary, b"reject")?;
     let secret = Secret::new(b"testing123")?;
-    let replay = replay_alone(&policy, &secret, SecretValues::Hidden);
+    let redaction = redaction_of(alloc, &dictionary, SecretValues::Hidden, &policy)?;
+    let replay = replay_alone(&policy, &secret, &redaction);
     Ok(replay.run(alloc, input, out))
 }
 
@@ -50,7 +51,7 @@ fn what_was_read_is_told_before_the_input_fails(rt: HostRuntime) -> Result<(), F
     let mut out = Vec::new(alloc);
     let ended = replay_by(alloc, &mut input, &mut out)?;
     assert!(&rt; matches!(ended, Err(ReplayFault::Input)));
-    let told = b"first none E05 not hex\nsecond none E05 not hex\n";
+    let told = b"1 E05 not hex\n2 E05 not hex\n";
     assert_eq!(&rt; out.as_slice(), told.as_slice());
     Ok(())
 }
@@ -59,13 +60,10 @@ fn what_was_read_is_told_before_the_input_fails(rt: HostRuntime) -> Result<(), F
 fn a_full_output_holds_a_front(rt: HostRuntime) -> Result<(), Fail> {
     let alloc = rt.alloc();
     let mut input = b"first none\nsecond none\n".as_slice();
-    let mut space = [0; 30];
+    let mut space = [0; 16];
     let mut out = space.as_mut_slice();
     let ended = replay_by(alloc, &mut input, &mut out)?;
     assert!(&rt; matches!(ended, Err(ReplayFault::Output)));
-    assert_eq!(&rt;
-        space.as_slice(),
-        b"first none E05 not hex\nsecond ".as_slice()
-    );
+    assert_eq!(&rt; space.as_slice(), b"1 E05 not hex\n2 ".as_slice());
     Ok(())
 }

@@ -1,7 +1,7 @@
 //! Records of lines with initial reply and control lists.
 
 use crate::comparisons::{Asked, replay_against};
-use crate::replays::{counts_of, replay_alone};
+use crate::replays::{counts_of, redaction_of, replay_alone};
 use avp_dict::Dictionary;
 use radpolicy::{PreparedPolicy, Secret};
 use radpolicy_common::SecretValues;
@@ -19,7 +19,8 @@ fn told(alloc: Global, text: &[u8]) -> Result<Vec<u8>, Fail> {
     let dictionary: Dictionary = test_dictionary(alloc)?;
     let policy = PreparedPolicy::read(alloc, &dictionary, POLICY)?;
     let secret = Secret::new(b"testing123")?;
-    let replay = replay_alone(&policy, &secret, SecretValues::Hidden);
+    let redaction = redaction_of(alloc, &dictionary, SecretValues::Hidden, &policy)?;
+    let replay = replay_alone(&policy, &secret, &redaction);
     let mut records = RecordReader::new(alloc, text, Format::Records)?;
     let mut out = Vec::new(alloc);
     replay.run_records(alloc, None, &mut records, &mut out)?;
@@ -81,7 +82,8 @@ fn told_beside(alloc: Global, text: &[u8]) -> Result<(Vec<u8>, Summary), Fail> {
         ignored: &[],
         told: Told::Different,
     };
-    let replay = replay_against(&policy, &policy, &secret, asked);
+    let redaction = redaction_of(alloc, &dictionary, SecretValues::Hidden, &policy)?;
+    let replay = replay_against(&policy, &policy, &secret, &redaction, asked);
     let mut records = RecordReader::new(alloc, text, Format::Records)?;
     let mut out = Vec::new(alloc);
     let summary = replay.run_records(alloc, None, &mut records, &mut out)?;

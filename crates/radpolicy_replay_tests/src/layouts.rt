@@ -1,5 +1,6 @@
 //! Records as tests of the Test Anything Protocol, and as JSON.
 
+use crate::replays::redaction_of;
 use avp_dict::Dictionary;
 use radpolicy::{PreparedPolicy, Secret};
 use radpolicy_common::SecretValues;
@@ -35,11 +36,12 @@ fn told(alloc: Global, layout: Layout) -> Result<Vec<u8>, Fail> {
     let secret = Secret::new(b"testing123")?;
     let shared = SharedSecrets::One(&secret);
     let comparison = Some(beside(&old));
+    let redaction = redaction_of(alloc, &dictionary, SecretValues::Hidden, &policy)?;
     let replay = Replay {
         policy: &policy,
         shared,
         comparison,
-        secrets: SecretValues::Hidden,
+        redaction: &redaction,
         layout,
     };
     let mut records = RecordReader::new(alloc, REQUESTS, Format::Records)?;

@@ -3,11 +3,11 @@
 use avp_dict::Dictionary;
 use radpolicy::{PreparedPolicy, Secret};
 use radpolicy_changing_lines::PolicyLine;
-use radpolicy_common::SecretValues;
+use radpolicy_common::{Hiding, Redaction, SecretValues};
 use radpolicy_record_answers::MAX_LINE_OCTETS;
 use radpolicy_replay_records::{Layout, Replay, SharedSecrets, Summary};
 use samples::test_dictionary;
-use std::alloc::Global;
+use std::alloc::{AllocError, Global};
 use std::test::Fail;
 
 const POLICY: &[u8] = b"if (&NAS-Port > 3) {
@@ -21,27 +21,41 @@ update reply { Session-Timeout := 600 }
 const RECORDS: &[u8] = b"first 10.0.0.1 0107001a00112233445566778899aabbccddeeff050600000003
 0107001a00112233445566778899aabbccddeeff050600000004\r
 \t
-src=2001:db8::1 a b\x07 0207001400112233445566778899aabbccddeeff
+src=2001:db8::1 a\x07 b=\"c\" 0207001400112233445566778899aabbccddeeff
 no packet";
 
 const ANSWERS: &[u8] = b"first ok 0207001a39b17b5d376714bd293704b7725c1fcb1b0600000258
 2 reject stopped 0307001483111e9861b83e3085b2622fa3f4a8e6
-a b\\007 E44 code not taken
-no packet E05 not hex
+a\\007 E44 code not taken
+4 E05 not hex
 ";
+
+/// What is hidden of the runs of a policy.
+pub(crate) fn redaction_of<'a>(
+    alloc: Global,
+    dictionary: &'a Dictionary,
+    secrets: SecretValues,
+    policy: &PreparedPolicy<'_>,
+) -> Result<Redaction<'a>, AllocError> {
+    let hiding = Hiding {
+        secrets,
+        given: &[],
+    };
+    Redaction::new(alloc, dictionary, hiding, &[policy.policy()])
+}
 
 /// The replay by a policy that is compared with none.
 pub(crate) fn replay_alone<'a>(
     policy: &'a PreparedPolicy<'a>,
     secret: &'a Secret<'a>,
-    secrets: SecretValues,
+    redaction: &'a Redaction<'a>,
 ) -> Replay<'a> {
     let shared = SharedSecrets::One(secret);
     Replay {
         policy,
         shared,
         comparison: None,
-        secrets,
+        redaction,
         layout: Layout::Plain,
     }
 }
@@ -78,7 +92,8 @@ fn replayed(
     let dictionary: Dictionary = test_dictionary(alloc)?;
     let policy = PreparedPolicy::read(alloc, &dictionary, policy)?;
     let secret = Secret::new(b"testing123")?;
-    let replay = replay_alone(&policy, &secret, secrets);
+    let redaction = redaction_of(alloc, &dictionary, secrets, &policy)?;
+    let replay = replay_alone(&policy, &secret, &redaction);
     let mut input = input;
     let mut out = Vec::new(alloc);
     let summary = replay.run(alloc, &mut input, &mut out)?;

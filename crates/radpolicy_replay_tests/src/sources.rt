@@ -1,9 +1,10 @@
 //! Records of several clients.
 
+use crate::replays::redaction_of;
 use avp_dict::Dictionary;
 use radpolicy::PreparedPolicy;
 use radpolicy_clients::{Clients, read_lines};
-use radpolicy_common::SecretValues;
+use radpolicy_common::{Redaction, SecretValues};
 use radpolicy_replay_records::{Layout, Replay, SharedSecrets, Summary};
 use samples::test_dictionary;
 use std::alloc::Global;
@@ -22,7 +23,7 @@ const FIRST: &[u8] = b"first ok 0207001a39b17b5d376714bd293704b7725c1fcb1b060000
 second ok 0207001a6e3077bb4e02bc5e3701d04357a9a0731b0600000258
 third no client
 fourth no client
-fifth none E05 not hex
+5 E05 not hex
 ";
 
 fn clients(alloc: Global) -> Result<Clients, Fail> {
@@ -33,13 +34,17 @@ fn clients(alloc: Global) -> Result<Clients, Fail> {
 }
 
 // The replay by a policy and the secrets of clients.
-fn replay_by_client<'a>(policy: &'a PreparedPolicy<'a>, clients: &'a Clients) -> Replay<'a> {
+fn replay_by_client<'a>(
+    policy: &'a PreparedPolicy<'a>,
+    clients: &'a Clients,
+    redaction: &'a Redaction<'a>,
+) -> Replay<'a> {
     let shared = SharedSecrets::ByClient(clients);
     Replay {
         policy,
         shared,
         comparison: None,
-        secrets: SecretValues::Hidden,
+        redaction,
         layout: Layout::Plain,
     }
 }
@@ -50,7 +55,8 @@ fn replayed(alloc: Global) -> Result<(Vec<u8>, Summary), Fail> {
     let dictionary: Dictionary = test_dictionary(alloc)?;
     let policy = PreparedPolicy::read(alloc, &dictionary, POLICY)?;
     let clients = clients(alloc)?;
-    let replay = replay_by_client(&policy, &clients);
+    let redaction = redaction_of(alloc, &dictionary, SecretValues::Hidden, &policy)?;
+    let replay = replay_by_client(&policy, &clients, &redaction);
     let mut input = RECORDS;
     let mut out = Vec::new(alloc);
     let summary = replay.run(alloc, &mut input, &mut out)?;

@@ -1,11 +1,11 @@
 //! Replays of what servers and tools print.
 
-use crate::replays::{count_by, counts_of};
+use crate::replays::{count_by, counts_of, redaction_of};
 use avp_dict::Dictionary;
 use radpolicy::{PreparedPolicy, Secret};
 use radpolicy_changing_lines::PolicyLine;
 use radpolicy_clients::{Clients, read_lines};
-use radpolicy_common::SecretValues;
+use radpolicy_common::{Redaction, SecretValues};
 use radpolicy_record_answers::{Against, Comparison, Order, Told};
 use radpolicy_replay_records::{Layout, RecordReader, Replay, SharedSecrets, Summary};
 use radpolicy_traffic::Format;
@@ -33,11 +33,12 @@ fn told(alloc: Global, format: Format, text: &[u8]) -> Result<(Vec<u8>, Summary)
     let secret = Secret::new(b"testing123")?;
     let comparison = Some(beside_captured(&[]));
     let shared = SharedSecrets::One(&secret);
+    let redaction = redaction_of(alloc, &dictionary, SecretValues::Hidden, &policy)?;
     let replay = Replay {
         policy: &policy,
         shared,
         comparison,
-        secrets: SecretValues::Hidden,
+        redaction: &redaction,
         layout: Layout::Plain,
     };
     let mut records = RecordReader::new(alloc, text, format)?;
@@ -130,13 +131,17 @@ const SOURCES: &[u8] = b"(0) Received Access-Request Id 1 from 10.0.0.1:4 to x
 ";
 
 // The replay by a policy and the secrets of clients.
-fn replay_by_client<'a>(policy: &'a PreparedPolicy<'a>, clients: &'a Clients) -> Replay<'a> {
+fn replay_by_client<'a>(
+    policy: &'a PreparedPolicy<'a>,
+    clients: &'a Clients,
+    redaction: &'a Redaction<'a>,
+) -> Replay<'a> {
     let shared = SharedSecrets::ByClient(clients);
     Replay {
         policy,
         shared,
         comparison: None,
-        secrets: SecretValues::Hidden,
+        redaction,
         layout: Layout::Plain,
     }
 }
@@ -146,7 +151,8 @@ fn told_by_client(alloc: Global, text: &[u8]) -> Result<Vec<u8>, Fail> {
     let dictionary: Dictionary = test_dictionary(alloc)?;
     let policy = PreparedPolicy::read(alloc, &dictionary, POLICY)?;
     let clients = clients(alloc)?;
-    let replay = replay_by_client(&policy, &clients);
+    let redaction = redaction_of(alloc, &dictionary, SecretValues::Hidden, &policy)?;
+    let replay = replay_by_client(&policy, &clients, &redaction);
     let mut records = RecordReader::new(alloc, text, Format::DebugLog)?;
     let mut out = Vec::new(alloc);
     replay.run_records(alloc, None, &mut records, &mut out)?;

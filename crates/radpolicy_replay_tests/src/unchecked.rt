@@ -1,9 +1,10 @@
 //! Replays of packets whose secret is not known.
 
 use crate::captured::replay_captured;
+use crate::replays::redaction_of;
 use avp_dict::Dictionary;
 use radpolicy::PreparedPolicy;
-use radpolicy_common::SecretValues;
+use radpolicy_common::{Redaction, SecretValues};
 use radpolicy_record_answers::{Order, Told};
 use radpolicy_replay_records::{Layout, RecordReader, Replay, SharedSecrets};
 use radpolicy_traffic::Format;
@@ -21,12 +22,15 @@ third 0207001400112233445566778899aabbccddeeff
 
 const POLICY: &[u8] = b"if (&User-Password) { reject }";
 
-fn unchecked_replay<'a>(policy: &'a PreparedPolicy<'a>) -> Replay<'a> {
+fn unchecked_replay<'a>(
+    policy: &'a PreparedPolicy<'a>,
+    redaction: &'a Redaction<'a>,
+) -> Replay<'a> {
     Replay {
         policy,
         shared: SharedSecrets::Unknown,
         comparison: None,
-        secrets: SecretValues::Shown,
+        redaction,
         layout: Layout::Plain,
     }
 }
@@ -34,7 +38,8 @@ fn unchecked_replay<'a>(policy: &'a PreparedPolicy<'a>) -> Replay<'a> {
 fn answered(alloc: Global) -> Result<Vec<u8>, Fail> {
     let dictionary: Dictionary = test_dictionary(alloc)?;
     let policy = PreparedPolicy::read(alloc, &dictionary, POLICY)?;
-    let replay = unchecked_replay(&policy);
+    let redaction = redaction_of(alloc, &dictionary, SecretValues::Shown, &policy)?;
+    let replay = unchecked_replay(&policy, &redaction);
     let (mut input, mut out) = (RECORDS, Vec::new(alloc));
     replay.run(alloc, &mut input, &mut out)?;
     Ok(out)
@@ -75,7 +80,9 @@ fn told_of_replies(alloc: Global) -> Result<Vec<u8>, Fail> {
         &dictionary,
         b"update reply { Session-Timeout := 600 }",
     )?;
-    let replay = replay_captured(&policy, SharedSecrets::Unknown, Order::ByName, Told::All);
+    let redaction = redaction_of(alloc, &dictionary, SecretValues::Hidden, &policy)?;
+    let shared = SharedSecrets::Unknown;
+    let replay = replay_captured(&policy, shared, &redaction, Order::ByName, Told::All);
     let (mut input, mut out) = (CAPTURED, Vec::new(alloc));
     replay.run(alloc, &mut input, &mut out)?;
     Ok(out)
@@ -97,7 +104,8 @@ fn answered_lines(alloc: Global) -> Result<Vec<u8>, Fail> {
         &dictionary,
         b"if (&User-Password == \"hello\") { reject }",
     )?;
-    let replay = unchecked_replay(&policy);
+    let redaction = redaction_of(alloc, &dictionary, SecretValues::Shown, &policy)?;
+    let replay = unchecked_replay(&policy, &redaction);
     let mut records = RecordReader::new(alloc, LINES, Format::Records)?;
     let mut out = Vec::new(alloc);
     replay.run_records(alloc, None, &mut records, &mut out)?;

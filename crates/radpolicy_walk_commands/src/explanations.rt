@@ -8,7 +8,7 @@ use crate::sources::{SourceLines, named_in};
 use crate::steps::{Step, line_of};
 use avp_step::Label;
 use radpolicy::code_text;
-use radpolicy_common::{SecretValues, reason_text};
+use radpolicy_common::reason_text;
 use std::alloc::{AllocError, Global};
 
 // Words, the number of a line, and words.
@@ -79,15 +79,10 @@ fn push_reason(text: &mut Vec<u8>, session: &Session<'_>) -> Result<(), AllocErr
 }
 
 // The instances of the attributes that a line of the policy names.
-fn push_named(
-    text: &mut Vec<u8>,
-    session: &Session<'_>,
-    secrets: SecretValues,
-    line: &[u8],
-) -> Result<(), AllocError> {
+fn push_named(text: &mut Vec<u8>, session: &Session<'_>, line: &[u8]) -> Result<(), AllocError> {
     let alloc = *text.allocator();
     for id in named_in(alloc, session.dictionary(), line)? {
-        text.extend_from_slice(&instances_text(alloc, session, secrets, id)?)?;
+        text.extend_from_slice(&instances_text(alloc, session, id)?)?;
     }
     Ok(())
 }
@@ -107,7 +102,6 @@ pub fn why_text(
     alloc: Global,
     session: &mut Session<'_>,
     sources: &SourceLines<'_>,
-    secrets: SecretValues,
 ) -> Result<Vec<u8>, AllocError> {
     let mut text = Vec::new(alloc);
     push_reason(&mut text, session)?;
@@ -116,7 +110,7 @@ pub fn why_text(
         && let Some(line) = line_of(label).and_then(|line| sources.line(line))
     {
         session.make(Command::Back(1))?;
-        push_named(&mut text, session, secrets, line)?;
+        push_named(&mut text, session, line)?;
         session.make(Command::Forward(1))?;
     }
     Ok(text)

@@ -4,7 +4,7 @@ use avp_dict::Dictionary;
 use avp_forms::Profile;
 use avp_lists::AttrId;
 use radpolicy::{PreparedPolicy, RequestHead, RequestKind, Start};
-use radpolicy_common::SecretValues;
+use radpolicy_common::{Hiding, SecretValues};
 use radpolicy_walk_commands::{Command, Session, history_text};
 use samples::test_dictionary;
 use std::alloc::Global;
@@ -18,15 +18,20 @@ const HEAD: RequestHead = RequestHead {
     authenticator: None,
 };
 
+const HIDING: Hiding<'static> = Hiding {
+    secrets: SecretValues::Hidden,
+    given: &[],
+};
+
 // The history of Class at the end of a run over a request with a Class.
 fn history_of(alloc: Global, text: &[u8]) -> Result<Vec<u8>, Fail> {
     let dictionary: Dictionary = test_dictionary(alloc)?;
     let policy = PreparedPolicy::read(alloc, &dictionary, text)?;
     let request = b"Class = 0x09, User-Name = \"bob\"";
     let start = Start::of_lines(alloc, &policy, None, HEAD, Profile::Plain, None, request)?;
-    let mut session = Session::new(alloc, start)?;
+    let mut session = Session::new(alloc, start, HIDING)?;
     session.make(Command::End)?;
-    Ok(history_text(alloc, &mut session, SecretValues::Hidden, CLASS)?)
+    Ok(history_text(alloc, &mut session, CLASS)?)
 }
 
 #[test]

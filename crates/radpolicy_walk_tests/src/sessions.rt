@@ -4,7 +4,7 @@ use avp_dict::Dictionary;
 use avp_forms::Profile;
 use avp_lists::{AttrId, List};
 use radpolicy::{PreparedPolicy, RequestHead, RequestKind, Start};
-use radpolicy_common::SecretValues;
+use radpolicy_common::{Hiding, SecretValues};
 use radpolicy_walk_commands::{
     Command, Session, SourceLines, history_text, instances_text, lists_text, trace_text, why_text,
 };
@@ -35,6 +35,11 @@ const HEAD: RequestHead = RequestHead {
     authenticator: None,
 };
 
+const HIDING: Hiding<'static> = Hiding {
+    secrets: SecretValues::Hidden,
+    given: &[],
+};
+
 fn start_of<'a>(alloc: Global, policy: &'a PreparedPolicy<'a>) -> Result<Start<'a>, Fail> {
     Ok(Start::of_lines(
         alloc,
@@ -51,7 +56,7 @@ fn start_of<'a>(alloc: Global, policy: &'a PreparedPolicy<'a>) -> Result<Start<'
 fn position_after(alloc: Global, commands: &[Command]) -> Result<usize, Fail> {
     let dictionary: Dictionary = test_dictionary(alloc)?;
     let policy = PreparedPolicy::read(alloc, &dictionary, POLICY)?;
-    let mut session = Session::new(alloc, start_of(alloc, &policy)?)?;
+    let mut session = Session::new(alloc, start_of(alloc, &policy)?, HIDING)?;
     session.follow(commands)?;
     Ok(session.position())
 }
@@ -122,13 +127,12 @@ fn shown(
     sources: &SourceLines<'_>,
     what: Answer,
 ) -> Result<Vec<u8>, Fail> {
-    let secrets = SecretValues::Hidden;
     Ok(match what {
-        Answer::Change => session.change(alloc, Command::Forward(1), secrets)?,
-        Answer::Class => instances_text(alloc, session, secrets, CLASS)?,
-        Answer::History => history_text(alloc, session, secrets, CLASS)?,
-        Answer::Reply => lists_text(alloc, session, secrets, Some(List::Reply))?,
-        Answer::Why => why_text(alloc, session, sources, secrets)?,
+        Answer::Change => session.change(alloc, Command::Forward(1))?,
+        Answer::Class => instances_text(alloc, session, CLASS)?,
+        Answer::History => history_text(alloc, session, CLASS)?,
+        Answer::Reply => lists_text(alloc, session, Some(List::Reply))?,
+        Answer::Why => why_text(alloc, session, sources)?,
         Answer::Trace => trace_text(alloc, session, sources)?,
     })
 }
@@ -138,7 +142,7 @@ fn text_at(alloc: Global, position: usize, what: Answer) -> Result<Vec<u8>, Fail
     let dictionary: Dictionary = test_dictionary(alloc)?;
     let policy = PreparedPolicy::read(alloc, &dictionary, POLICY)?;
     let sources = SourceLines::new(alloc, POLICY)?;
-    let mut session = Session::new(alloc, start_of(alloc, &policy)?)?;
+    let mut session = Session::new(alloc, start_of(alloc, &policy)?, HIDING)?;
     session.make(Command::Goto(position))?;
     shown(alloc, &mut session, &sources, what)
 }
