@@ -1,5 +1,6 @@
 # make run        shows examples/hello by the proved program; if that is still to be built, first without a proof
-# make test       the gate, then the examples, the documents and the tests of tests/ through the built programs
+# make test       tests, examples, documents and the quick parts of tests/, by what is compiled before any proof: minutes
+# make gate       every proof, wrong bodies, examples, documents and tests/ by the proved programs: hours on a new machine
 # make trials     the tests of tests/ alone
 # make wrong-bodies  tries the wrong bodies of CRATES, or of all crates, those that the gate leaves out too
 # make bench      measures the program and packets, beside FreeRADIUS where it is installed (docs/SPEED.md)
@@ -16,7 +17,7 @@ PREFIX ?= /usr/local
 PROGRAM = crates/radpolicy_cli/out/radpolicy_cli
 EXAMPLE = examples/hello
 
-.PHONY: run build test trials wrong-bodies bench fuzz documents install uninstall package
+.PHONY: run build test gate trials wrong-bodies bench fuzz documents install uninstall package
 
 run:
 	@RT="$(RT)" scripts/run $(EXAMPLE)
@@ -25,7 +26,10 @@ build:
 	@RT="$(RT)" scripts/build $$(scripts/list-installed crates)
 
 test:
-	@RT="$(RT)" scripts/test $(PROGRAM)
+	@RT="$(RT)" scripts/test
+
+gate:
+	@RT="$(RT)" scripts/gate $(PROGRAM)
 
 trials:
 	@tests/run $(PROGRAM)
@@ -36,9 +40,8 @@ wrong-bodies:
 	@RT="$(RT)" scripts/try-wrong-bodies $(CRATES)
 
 bench: build
-	@RT="$(RT)" scripts/build bench_packets drive_runs radpolicy_c
-	@RT="$(RT)" bench/run $(PROGRAM) crates/bench_packets/out/bench_packets crates/drive_runs/out/drive_runs \
-		crates/radpolicy_replay/out/radpolicy_replay
+	@RT="$(RT)" scripts/build drive radpolicy_c
+	@RT="$(RT)" bench/run $(PROGRAM) crates/drive/out/drive crates/radpolicy_replay/out/radpolicy_replay
 
 SECONDS = 60
 

@@ -71,13 +71,13 @@ def show_more(program: Path, dictionaries: Set, folder: Path) -> None:
     show_one_more("a pair more, read and printed", lambda count: run_of("", b"Class = 0x0102\n" * count), folder)
 
 
-def show_packets(program: Path, dictionaries: Set, folder: Path, peer: Optional[Path]) -> None:
+def show_packets(drive: Path, dictionaries: Set, folder: Path, peer: Optional[Path]) -> None:
     """A decode, and a decode with an encode, of each packet."""
     for name, octets in PACKETS.items():
         packet = folder / "packet"
         packet.write_bytes(octets)
         taken: Dict[Tuple[str, str], float] = {}
-        for who, worker in workers(program, peer, dictionaries, packet).items():
+        for who, worker in workers(drive, peer, dictionaries, packet).items():
             for work in ("decode", "both"):
                 few, many = (Counted(Command(worker(work, count)), folder) for count in (FEW, MANY))
                 taken[who, work] = (many.instructions - few.instructions) / (MANY - FEW)
@@ -90,7 +90,7 @@ def show_packets(program: Path, dictionaries: Set, folder: Path, peer: Optional[
 
 
 def show_instructions(
-    program: Path, bench_packets: Path, found: List[Set], folder: Path, client: Optional[str], peer: Optional[Path]
+    program: Path, drive: Path, found: List[Set], folder: Path, client: Optional[str], peer: Optional[Path]
 ) -> None:
     """Of a start by each set, and of the rest by the small one, which is the last."""
     if not shutil.which("valgrind"):
@@ -100,4 +100,4 @@ def show_instructions(
     for dictionaries in found:
         show_start(program, dictionaries, folder, client)
     show_more(program, found[-1], folder)
-    show_packets(bench_packets, found[-1], folder, peer)
+    show_packets(drive, found[-1], folder, peer)

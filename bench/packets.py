@@ -65,23 +65,23 @@ def seconds_of(worker: Worker, work: str, count: int) -> float:
     return (whole.whole - start.whole) / count
 
 
-def workers(program: Path, peer: Optional[Path], dictionaries: Set, packet: Path) -> Dict[str, Worker]:
+def workers(drive: Path, peer: Optional[Path], dictionaries: Set, packet: Path) -> Dict[str, Worker]:
     found: Dict[str, Worker] = {
-        "ours": lambda work, count: [program, str(count), work, packet, *dictionaries.files]
+        "ours": lambda work, count: [drive, "packets", str(count), work, packet, *dictionaries.files]
     }
     if peer:
         found["libfreeradius"] = lambda work, count: [peer, work, dictionaries.folder, SECRET, packet, str(count)]
     return found
 
 
-def show_packets(program: Path, dictionaries: Set, folder: Path, peer: Optional[Path]) -> None:
+def show_packets(drive: Path, dictionaries: Set, folder: Path, peer: Optional[Path]) -> None:
     """Decodes and encodes a second. An encode is what decoding and encoding takes more than decoding."""
     print(f"Packets by {dictionaries.name}, a second")
     for name, octets in PACKETS.items():
         packet = folder / "packet"
         packet.write_bytes(octets)
         works: Dict[Tuple[str, str], Callable[[], float]] = {}
-        for who, worker in workers(program, peer, dictionaries, packet).items():
+        for who, worker in workers(drive, peer, dictionaries, packet).items():
             for work in ("decode", "both"):
                 count = count_for(worker, work)
                 works[who, work] = lambda worker=worker, work=work, count=count: seconds_of(worker, work, count)

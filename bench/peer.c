@@ -1,4 +1,4 @@
-// Decodes and encodes packets by FreeRADIUS's own library, as bench_packets does by ours.
+// Decodes and encodes packets by FreeRADIUS's own library, as `drive packets` does by ours.
 //
 //     peer load DICTIONARIES                            reads the dictionaries
 //     peer decode DICTIONARIES SECRET PACKET COUNT      and decodes a packet so many times

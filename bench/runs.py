@@ -36,10 +36,10 @@ if (&User-Name) {
 """ + POLICY
 
 
-def workers(program: Path, peer: Optional[Path], dictionaries: Set, folder: Path) -> Dict[str, Worker]:
+def workers(drive: Path, peer: Optional[Path], dictionaries: Set, folder: Path) -> Dict[str, Worker]:
     def ours(policy: str) -> Worker:
         files = [folder / name for name in ("packet", "secret", policy, "reply", "control")]
-        return lambda work, count: [program, str(count), *files, *dictionaries.files]
+        return lambda work, count: [drive, "runs", str(count), *files, *dictionaries.files]
 
     found = {"ours": ours("policy"), "filtering": ours("filtering")}
     if peer:
@@ -51,7 +51,7 @@ def workers(program: Path, peer: Optional[Path], dictionaries: Set, folder: Path
     return found
 
 
-def show_runs(program: Path, dictionaries: Set, folder: Path, peer: Optional[Path]) -> None:
+def show_runs(drive: Path, dictionaries: Set, folder: Path, peer: Optional[Path]) -> None:
     """Runs a second: a packet is decoded, a policy of fourteen lines is run, and its reply is made; and the same with
     comparisons with regular expressions before it."""
     policies = {"policy": POLICY.encode(), "filtering": FILTERING.encode()}
@@ -59,7 +59,7 @@ def show_runs(program: Path, dictionaries: Set, folder: Path, peer: Optional[Pat
     for name, octets in given.items():
         (folder / name).write_bytes(octets)
     works: Dict[str, Callable[[], float]] = {}
-    for who, worker in workers(program, peer, dictionaries, folder).items():
+    for who, worker in workers(drive, peer, dictionaries, folder).items():
         count = count_for(worker, "both")
         works[who] = lambda worker=worker, count=count: seconds_of(worker, "both", count)
     taken = in_turn(works, ROUNDS)

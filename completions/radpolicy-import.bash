@@ -4,8 +4,9 @@ _radpolicy_import() {
     local IFS=$' \t\n'
     COMPREPLY=()
     if [[ $word == -* ]]; then
-        COMPREPLY=($(compgen -W '--server --section --policy --module --dict --dictionary --stub-functions -o --map
-            --initial --initial-template --plain --papers --check --strict --json --help' -- "$word"))
+        COMPREPLY=($(compgen -W '--server --section --policy --module --dict --write-dictionary --dictionary
+            --stub-functions -o --map --initial --initial-template --force --plain --papers --check --strict --json --hide
+            --show-secrets --help' -- "$word"))
     else
         # bash takes the `=` of an option for a word of its own.
         [[ $word == = ]] && word=

@@ -5,7 +5,7 @@ _radpolicy_replay() {
     COMPREPLY=()
     if [[ $word == -* ]]; then
         COMPREPLY=($(compgen -W '--policy --against --ordered --ignore --all --show-replies --strict --expect --tap
-            --json --to-hex -S --clients --no-secret --format --zone --show-secrets --help' -- "$word"))
+            --json --to-hex -S --clients --no-secret --format --zone --hide --show-secrets --help' -- "$word"))
     else
         # bash takes the `=` of an option for a word of its own.
         [[ $word == = ]] && word=

@@ -16,4 +16,5 @@ complete -c radpolicy-replay -l clients -r -F -d 'File with the clients and thei
 complete -c radpolicy-replay -l no-secret -d 'Read packets without a secret'
 complete -c radpolicy-replay -l format -x -a 'hex records detail log radclient radsniff' -d 'What the records are'
 complete -c radpolicy-replay -l zone -x -d 'What a zone other than UTC stands for in dates'
+complete -c radpolicy-replay -l hide -x -d 'Attribute whose values are hidden'
 complete -c radpolicy-replay -l show-secrets -d 'Show replies that have secret values'

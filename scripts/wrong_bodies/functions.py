@@ -1,17 +1,21 @@
 """Which function a line of a source belongs to, and how the prover calls it. Sources have the layout of `rt fmt`."""
+import functools
 import re
 from dataclasses import dataclass
+
+from wrong_bodies.edits import TOP
 
 HEAD = re.compile(
     r'( *)(?:pub(?:\([^)]*\))? )?((?:(?:const|unsafe|async|default|extern "C") )*)(fn|impl|mod|trait)\b(.*)'
 )
 CYCLE = re.compile(r"#\[cycle\((\w+)\)\]")
+TYPE = re.compile(r"^ *(?:pub(?:\([^)]*\))? )?(?:struct|enum|union) (\w+)", re.M)
 
 
 @dataclass(frozen=True)
 class Function:
     """A function: its path below the crate, the cycle of calls that it says it is in, and the lines of its file, from
-    its head to its end, with the first of its body."""
+    its attributes to its end, with the first of its body."""
 
     path: str
     cycle: str
@@ -52,25 +56,50 @@ def last_name(path):
     return names[-1] if names else ""
 
 
-def name_of_impl(head):
-    """Returns how the prover calls an impl: by its type and its trait, with the types that are given to the trait."""
-    text = head.partition(" where ")[0].strip(" {")
-    if text.startswith("<"):
-        depth = at = 0
-        for at, letter in enumerate(text):
-            depth += (letter == "<") - (letter == ">" and text[at - 1] != "-")
-            if not depth:
-                break
-        text = text[at + 1:]
+def split_parameters(text):
+    """Parts the parameters in front of an impl's head from the rest."""
+    if not text.startswith("<"):
+        return "", text
+    depth = at = 0
+    for at, letter in enumerate(text):
+        depth += (letter == "<") - (letter == ">" and text[at - 1] != "-")
+        if not depth:
+            break
+    return text[1:at], text[at + 1:]
+
+
+def types_given(path):
+    """Returns the names of the types that a type or a trait is given."""
+    given = re.match(r"[^<]*<(.*)>\s*$", path)
+    return [it for it in map(last_name, given[1].split(",")) if it] if given else []
+
+
+def path_of_impl(head, inside, homes):
+    """Returns how the prover calls an impl in a module: by its type and its trait, with the types that are given to the
+    trait. What a type has of its own stands under the type, unless it is there for some types given alone."""
+    parameters, text = split_parameters(head.partition(" where ")[0].strip(" {"))
     trait, _, of = text.rpartition(" for ")
-    given = re.match(r"[^<]*<(.*)>\s*$", trait)
-    types = [last_name(it) for it in given[1].split(",")] if given else []
-    return last_name(of) + (last_name(trait) + "".join(types) if trait else "")
+    name = last_name(of)
+    if trait and last_name(trait) != "Drop":
+        return [*inside, name + last_name(trait) + "".join(types_given(trait))]
+    own = re.findall(r"\w+", parameters)
+    given = [it for it in types_given(of) if it not in own]
+    return [*inside, "+".join([name, *given])] if given else [*homes.get(name, inside), name]
 
 
 def module_of(file):
     names = file[:-len(".rt")].split("/")[1:]
     return names[:-1] if names[-1] in ("lib", "main", "mod") else names
+
+
+@functools.lru_cache(maxsize=None)
+def homes_of(crate):
+    """Returns the modules of a crate's types by their names, of those that are the names of one type."""
+    modules = {}
+    for file in (TOP / "crates" / crate).glob("src/**/*.rt"):
+        for name in TYPE.findall(file.read_text(encoding="utf-8")):
+            modules.setdefault(name, []).append(module_of(str(file.relative_to(TOP / "crates" / crate))))
+    return {name: found[0] for name, found in modules.items() if len(found) == 1}
 
 
 def whole_head(lines, at):
@@ -79,15 +108,14 @@ def whole_head(lines, at):
     return " ".join(it.strip() for it in lines[at:end + 1])
 
 
-def cycle_of(lines, at):
-    """Returns the cycle that the attributes above a function name."""
-    for line in reversed(lines[:at]):
-        if not line.strip() or line.strip().startswith(("//", "}")):
-            return None
-        found = CYCLE.search(line)
-        if found:
-            return found[1]
-    return None
+def attributes_above(lines, at):
+    """Returns the lines of the attributes that stand right above a function's head."""
+    begin = at
+    while begin and lines[begin - 1].strip() and not lines[begin - 1].strip().startswith(("//", "}")):
+        if lines[begin - 1].endswith(("{", ";")):
+            break
+        begin -= 1
+    return lines[begin:at]
 
 
 def begin_of(lines, at, indent):
@@ -105,34 +133,39 @@ def end_of(lines, at, indent):
     return next((number + 1 for number in range(at + 1, len(lines)) if lines[number] in ends), len(lines))
 
 
-def functions_of(file, text):
+def functions_of(file, text, homes):
     """Gives the functions of modules and impls. A trait's are left out, which its impls share, and so are those that
     constants may call, which other proofs may compute."""
-    lines, around = text.split("\n"), []
+    lines = text.split("\n")
+    around = [(module_of(file), len(lines))]
     at = 0
     while at < len(lines):
-        around = [(name, last) for name, last in around if at < last]
+        around = [(path, last) for path, last in around if at < last]
+        inside = around[-1][0]
         found = HEAD.fullmatch(lines[at])
         if found and not lines[at].endswith((";", "{}")):
             indent, words, kind, rest = found.groups()
             last = end_of(lines, at, indent)
-            if kind in ("impl", "mod"):
-                name = name_of_impl(whole_head(lines, at).partition("impl")[2]) if kind == "impl" else last_name(rest)
-                around.append((name, last))
+            if kind == "mod":
+                around.append(([*inside, last_name(rest)], last))
+            elif kind == "impl":
+                around.append((path_of_impl(whole_head(lines, at).partition("impl")[2], inside, homes), last))
             else:
                 if kind == "fn" and "const" not in words:
-                    path = [*module_of(file), *(name for name, _ in around), re.match(r" (\w+)", rest)[1]]
-                    begins = begin_of(lines, at, indent) + 1
-                    yield Function("::".join(path), cycle_of(lines, at), file, at + 1, begins, last)
+                    path = "::".join([*inside, re.match(r" (\w+)", rest)[1]])
+                    attributes = attributes_above(lines, at)
+                    cycle = CYCLE.search("\n".join(attributes))
+                    first, begins = at + 1 - len(attributes), begin_of(lines, at, indent) + 1
+                    yield Function(path, cycle and cycle[1], file, first, begins, last)
                 at = last - 1
         at += 1
 
 
-def function_at(file, line, text):
-    """Returns the function whose body has a line."""
+def function_at(crate, file, line, text):
+    """Returns the function of a crate whose body has a line."""
     if not file.startswith("src/"):
         return None
-    return next((it for it in functions_of(file, text) if it.begins <= line <= it.last), None)
+    return next((it for it in functions_of(file, text, homes_of(crate)) if it.begins <= line <= it.last), None)
 
 
 def is_import(line, text):

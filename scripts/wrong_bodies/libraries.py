@@ -1,9 +1,5 @@
 """The crates, and the libraries that were proved of them."""
 import functools
-import os
-import shutil
-import sys
-from pathlib import Path
 
 from wrong_bodies.edits import PARTS, TOP
 
@@ -12,13 +8,6 @@ CRATES = TOP / "crates"
 
 class Lacking(Exception):
     """Why there is nothing to check a crate over."""
-
-
-def find_kit():
-    rt = shutil.which(os.environ.get("RT") or "rt")
-    if not rt:
-        sys.exit("scripts/try-wrong-bodies: rt is not on the PATH, and RT does not name it")
-    return Path(rt).resolve().parent.parent
 
 
 def read_crates():

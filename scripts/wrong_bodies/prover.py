@@ -14,6 +14,10 @@ from wrong_bodies.edits import PARTS
 from wrong_bodies.libraries import CRATES, STATIC, USES, below, library_of
 
 STALE = re.compile(r"module .Rattle-\w+-.*Run the lower steps again")
+# A line with a place. Before the place may stand that it is a note, and of whose words.
+PLACED = re.compile(
+    r"(note: )?(what antt said of (?:it|[^:]*`search`[^:]*): )?(?:\./)?(\S+?):(\d+):\d+:( error:)? (.*)"
+)
 
 
 class Stopped(Exception):
@@ -60,11 +64,13 @@ class Told:
     file: str
     line: int
     is_note: bool
+    # Whether it is what a search of the prover's own came to, which broke off.
+    is_of_search: bool
     words: str
 
     def is_refusal(self):
         """Tells whether something is refused there, and not only said."""
-        return not self.is_note or self.words.startswith("it is not proved that")
+        return not self.is_note or self.is_of_search or self.words.startswith("it is not proved that")
 
 
 @dataclass(frozen=True)
@@ -77,9 +83,10 @@ class Said:
     def told(self):
         """Gives the lines with a place: a refusal's place, and what is refused there."""
         for line in self.lines:
-            found = re.match(r"(note: )?(?:\./)?(\S+?):(\d+):\d+:(?: error:)? (.*)", line)
+            found = PLACED.match(line)
             if found and (found[1] or ": error" in line):
-                yield Told(found[2], int(found[3]), bool(found[1]), found[4])
+                is_of_search = bool(found[2] and found[5])
+                yield Told(found[3], int(found[4]), bool(found[1]), is_of_search, found[6])
 
     def verdict(self, crate, path):
         """Returns what was said of a function, or nothing."""
@@ -94,8 +101,28 @@ class Said:
         """Tells whether what was kept of a library could not be used."""
         return any(STALE.search(it) for it in self.lines)
 
+    def has_error(self):
+        """Tells whether the front end refused a text, with an error that has a name."""
+        return any(re.search(r"\berror\[[\w-]+\]", it) for it in self.lines)
+
     def first_words(self):
         return next((it for it in self.lines if it.startswith(("error", "rattle:"))), self.lines[-1])[:160]
+
+
+def check_words(kit, crate):
+    """Returns the words of a check of a crate, as `rt ci` has them, over the libraries that were proved."""
+    libraries = ["-L", f"dependency={kit}/rlibs"]
+    for name in ["std", *USES[crate]]:
+        folder = library_of(name) if name in USES else kit / "rlibs"
+        libraries += ["--extern", f"{name}={folder}/{name}.rlib"]
+    for name in below(crate):
+        libraries += ["-L", f"dependency={library_of(name)}"]
+    root = "src/main.rt" if (CRATES / crate / "src/main.rt").is_file() else "src/lib.rt"
+    return [
+        "--crate-name", crate, root, *libraries, "--jobs", "1", "--links", f"{crate}=",
+        "--antt-project", kit / "rattle/logic/antt-project.json", "--logic-built", kit / "logic_built",
+        *(["--crate-type", "staticlib"] if crate in STATIC else []),
+    ]  # fmt: skip
 
 
 class Prover:
@@ -106,18 +133,7 @@ class Prover:
         self.seconds = 0
         self.checks = 0
         self._folder = tempfile.TemporaryDirectory(prefix="wrong-bodies-")
-        libraries = ["-L", f"dependency={kit}/rlibs"]
-        for name in ["std", *USES[crate]]:
-            folder = library_of(name) if name in USES else kit / "rlibs"
-            libraries += ["--extern", f"{name}={folder}/{name}.rlib"]
-        for name in below(crate):
-            libraries += ["-L", f"dependency={library_of(name)}"]
-        root = "src/main.rt" if (CRATES / crate / "src/main.rt").is_file() else "src/lib.rt"
-        self._words = [
-            kit / "bin/rattle", "check", "--crate-name", crate, root, *libraries, "--jobs", "1", "--links", f"{crate}=",
-            "--antt-project", kit / "rattle/logic/antt-project.json", "--logic-built", kit / "logic_built",
-            *(["--crate-type", "staticlib"] if crate in STATIC else []), "--incremental", f"{self._folder.name}/kept",
-        ]  # fmt: skip
+        self._words = [kit / "bin/rattle", "check", *check_words(kit, crate)]
 
     def __enter__(self):
         return self
@@ -125,7 +141,7 @@ class Prover:
     def __exit__(self, *_):
         self._folder.cleanup()
 
-    def check(self, texts, only=()):
+    def check(self, texts, only=(), is_anew=False):
         """Checks the crate with these texts in place of its own: the whole of it, or some functions."""
         began = time.monotonic()
         with tempfile.TemporaryDirectory(prefix="wrong-bodies-") as copy:
@@ -133,8 +149,9 @@ class Prover:
                 if (CRATES / self.crate / part).is_dir():
                     shutil.copytree(CRATES / self.crate / part, f"{copy}/{part}")
             for file, text in texts.items():
-                Path(copy, file).write_text(text)
+                Path(copy, file).write_text(text, encoding="utf-8")
             words = [*self._words, *(word for path in only for word in ("--only", path))]
+            words += [] if is_anew else ["--incremental", f"{self._folder.name}/kept"]
             status, said = RUNNING.run(words, copy)
             if status < 0:
                 # It was killed, most likely for memory, which others have given back meanwhile.

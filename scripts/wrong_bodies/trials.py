@@ -1,26 +1,13 @@
 """Tries the wrong bodies of a crate: many in one check of the functions that they change, and where that does not tell,
 each by itself."""
-import re
 from dataclasses import dataclass
 
 from wrong_bodies.edits import Unfit, places
 from wrong_bodies.functions import function_at, is_import
+from wrong_bodies.judging import BY_NAMES, SHOWN, Outcome, bad, judged_whole, refusals_by_names, refusals_of
+from wrong_bodies.judging import refused, unjudged
 
-# What the prover says where a proof file names what an edit took away, and of what cites such a proof.
-NAMES = re.compile(r".*(has no field|is not in scope|has no `|was not admitted|record `[^`]*` \(nearest: )")
-UNREAD = re.compile(r"is not in scope|has no field|is no name|operand is missing|expected the end|cannot continue")
 CALLS = "it calls `"
-SHOWN = 120
-
-
-@dataclass(frozen=True)
-class Outcome:
-    edit: object
-    passed: bool
-    words: str
-
-    def __str__(self):
-        return f"{self.edit}: {self.words}"
 
 
 @dataclass(frozen=True)
@@ -36,47 +23,10 @@ class Wrong:
 
 def read_wrong(edit):
     """Finds the functions that an edit changes."""
-    functions, texts = [], {}
-    for file, line, text in places(edit, texts):
-        function = function_at(file, line, text)
-        if not function and not is_import(line, text):
-            return Wrong(edit, ())
-        functions += [function] if function and function not in functions else []
-    return Wrong(edit, tuple(functions))
-
-
-def unjudged(said, texts):
-    """Returns why a check says nothing of its functions, if it did not come to its end or could not read a text."""
-    if said.has_ended() and not said.is_stale():
-        return unread_line(said, texts)
-    return f"status {said.status}: {said.first_words()}"
-
-
-def is_stale_proof(told):
-    return told.file.startswith("proofs/") and NAMES.match(told.words)
-
-
-def is_own(told, functions):
-    """Tells whether something is refused of one of these functions, by its meaning."""
-    return told.is_refusal() and not is_stale_proof(told) and any(it.has(told.file, told.line) for it in functions)
-
-
-def unread_line(said, texts):
-    """Returns a line that says that a text could not be read, where an edit that makes a statement false reads well."""
-    for line in said.lines:
-        at = re.match(r"(?:\./)?(\S+?):\d+:\d+: error: (?:(`[^`]*`): )?(.*)", line)
-        if at and (at[1] in texts or at[1].startswith(("src/", "specs/"))):
-            if not at[2] or UNREAD.search(re.sub(r"`[^`]*`", "", at[3])):
-                return line
-    return None
-
-
-def refused(edit, told, over=""):
-    return Outcome(edit, True, f"refused{over} at {told.file}:{told.line}: {told.words[:SHOWN]}")
-
-
-def bad(edit, why):
-    return Outcome(edit, False, f"BAD EDIT: {why}")
+    found = [(function_at(edit.crate, *place), is_import(*place[1:])) for place in places(edit, {})]
+    if not all(function or imports for function, imports in found):
+        return Wrong(edit, ())
+    return Wrong(edit, tuple(dict.fromkeys(function for function, _ in found if function)))
 
 
 def together(wrongs):
@@ -158,37 +108,27 @@ class Trials:
         for wrong in wrongs:
             verdicts = {it: said.verdict(self.prover.crate, it.path) for it in wrong.functions}
             unproved = [it for it, words in verdicts.items() if words.startswith(("not proved", "no proof"))]
-            own = [it for it in said.told() if is_own(it, unproved)]
+            own, by_names = refusals_of(said, unproved), refusals_by_names(said, unproved)
             if own:
                 self.outcomes[wrong.edit] = refused(wrong.edit, own[0])
             elif any(CALLS in verdicts[it] for it in unproved):
                 waiting.append(wrong)
+            elif by_names:
+                self.outcomes[wrong.edit] = refused(wrong.edit, by_names[0], BY_NAMES)
             else:
                 self.notes.append(f"{wrong.edit.name} is not refused at its function: {[*verdicts.values()]}"[:SHOWN])
                 self.alone.append(wrong.edit)
         return waiting
 
     def try_alone(self, edit):
-        """Tries one edit over the whole crate, where any function may be the one that the prover refuses."""
+        """Tries one edit over the whole crate, where any function may be the one that the prover refuses; and once more
+        from nothing, if that does not settle it."""
         texts = {}
         list(places(edit, texts))
-        said = self.prover.check(texts)
-        unread = unread_line(said, texts)
-        if unread:
-            return bad(edit, f"the prover cannot read the edited text, so no contract was tried: {unread[:SHOWN]}")
-        if said.is_stale():
-            return bad(edit, "what was kept of a library could not be used")
-        if said.status == 0:
-            return Outcome(edit, False, "NOT REFUSED: the crate is still proved")
-        if said.status != 1 or not said.lines[-1].startswith("logic=not-proved"):
-            return bad(edit, f"it did not reach the prover: {said.first_words()}")
-        told = list(said.told())
-        by_meaning = [it for it in told if not is_stale_proof(it)]
-        if by_meaning:
-            return refused(edit, by_meaning[0], ", over the whole crate,")
-        if told:
-            return refused(edit, told[0], ", only because a proof file names what the edit took away,")
-        return Outcome(edit, True, f"refused, over the whole crate: {said.lines[-1][:SHOWN]}")
+        outcome = judged_whole(edit, self.prover.check(texts), texts)
+        if outcome.is_settled:
+            return outcome
+        return judged_whole(edit, self.prover.check(texts, is_anew=True), texts)
 
     def check_unchanged(self):
         """Takes back what was refused if the prover refuses the same functions with no edit."""

@@ -33,10 +33,10 @@ def allocations_of(subject: Subject, octets: bytes, count: int) -> int:
     """How often a program asks for memory that decodes the packet so many times."""
     with new_folder() as folder:
         (folder / "packet").write_bytes(octets)
-        command = [str(subject.driver("bench_packets")), str(count), "decode", "packet", str(DICTIONARY)]
+        command = [*subject.drive("packets"), str(count), "decode", "packet", str(DICTIONARY)]
         run = Refusals(subject, folder).run(command, folder, 0)
     if run.ended.status:
-        raise RuntimeError(f"bench_packets ended with {run.ended.status}: {run.ended.errors!r}")
+        raise RuntimeError(f"drive packets ended with {run.ended.status}: {run.ended.errors!r}")
     return run.asked
 
 

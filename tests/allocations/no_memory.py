@@ -52,7 +52,7 @@ None
 def check_look_ups(subject: Subject, report: Report) -> None:
     """From the last allocation on every one is refused. It came before the line `begin`, so nothing after it asked."""
     text = (CASES / "dictionary").read_text() + DICTIONARY_END
-    command = [str(subject.driver("drive_lookups")), text, ATTRIBUTES, REQUEST, *NAMES]
+    command = [*subject.drive("lookups"), text, ATTRIBUTES, REQUEST, *NAMES]
     with new_folder() as folder:
         refusals = Refusals(subject, folder)
         free = refusals.run(command, folder, 0)

@@ -2,40 +2,16 @@
 import mmap
 import os
 import struct
-import subprocess
-import tempfile
-import threading
 from pathlib import Path
 from typing import NamedTuple, Optional, Sequence
 
+from common.preloaded import library
 from common.program import Ended, Word, run
 from common.subject import Subject
 
 NUMBERS = struct.Struct("6q")
 ALL_LATER = 2**62
 SOURCE = Path(__file__).with_name("refuse_allocations.c")
-MADE = Path(__file__).parent / "out" / "refuse_allocations.so"
-MAKING = threading.Lock()
-
-
-def make_library(subject: Subject) -> None:
-    """Makes the preloaded library by the kit's own clang. Another run of the tests may do so too: what is there is
-    always a whole one."""
-    MADE.parent.mkdir(exist_ok=True)
-    clang = subject.kit / "toolchain/bin/clang"
-    flags = ["--no-default-config", "-O2", "-shared", "-fPIC", "-nostdlib", "-fuse-ld=lld"]
-    with tempfile.TemporaryDirectory(dir=MADE.parent) as folder:
-        new = Path(folder) / MADE.name
-        subprocess.run([clang, *flags, "-o", new, SOURCE], check=True)
-        new.replace(MADE)
-
-
-def library(subject: Subject) -> Path:
-    """The preloaded library, which is made where it is not there yet. Several threads may ask for it."""
-    with MAKING:
-        if not MADE.is_file() or MADE.stat().st_mtime <= SOURCE.stat().st_mtime:
-            make_library(subject)
-    return MADE
 
 
 class Refused(NamedTuple):
@@ -56,7 +32,7 @@ class Refusals:
         self._file.write_bytes(bytes(NUMBERS.size))
         with open(self._file, "r+b") as file:
             self._page = mmap.mmap(file.fileno(), NUMBERS.size)
-        self._environment = {"LD_PRELOAD": str(library(subject)), "ALLOCATIONS": str(self._file)}
+        self._environment = {"LD_PRELOAD": str(library(subject, SOURCE)), "ALLOCATIONS": str(self._file)}
 
     def run(
         self, command: Sequence[Word], folder: Path, first: int, last: Optional[int] = None, stdin: bytes = b""

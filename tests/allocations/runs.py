@@ -112,7 +112,7 @@ def drive(subject: Subject, driven: Driven, count: int, refused: int = 0) -> Ref
     with new_folder() as folder:
         for name, octets in {**FILES, "policy": driven.policy}.items():
             (folder / name).write_bytes(octets)
-        command = [subject.driver("drive_runs"), str(count), *FILES, *driven.files]
+        command = [*subject.drive("runs"), str(count), *FILES, *driven.files]
         return Refusals(subject, folder).run(command, folder, refused)
 
 

@@ -106,7 +106,7 @@ def runs(refusals: Refusals, command: Sequence[Word], folder: Path, all_later: b
 def swept(subject: Subject, store: str, script: List[str], all_later: bool) -> Tuple[List[str], Counter[str]]:
     """Each allocation of a script refused in turn: what is wrong, and how often each kind of call was refused."""
     wrong, kinds = [], Counter[str]()
-    command = [str(subject.driver("drive_store")), store, *script]
+    command = [*subject.drive("stores"), store, *script]
     with new_folder() as folder:
         for allocation, run in runs(Refusals(subject, folder), command, folder, all_later):
             ended = run.ended
@@ -124,7 +124,7 @@ def swept(subject: Subject, store: str, script: List[str], all_later: bool) -> T
 def check_without_memory(subject: Subject, report: Report, store: str) -> None:
     """From the last allocation on every one is refused. It was that of the last call that takes memory, so the calls
     after it asked for none."""
-    command = [str(subject.driver("drive_store")), store, *WITHOUT_MEMORY]
+    command = [*subject.drive("stores"), store, *WITHOUT_MEMORY]
     with new_folder() as folder:
         refusals = Refusals(subject, folder)
         asked = refusals.run(command, folder, 0).asked
@@ -139,7 +139,7 @@ def check_without_memory(subject: Subject, report: Report, store: str) -> None:
 def check_later_state(subject: Subject, report: Report, store: str) -> None:
     """Wherever the edit asks for memory and is refused, the place and the states are those before: the state that was
     undone is there, and `redo` goes to it."""
-    command = [str(subject.driver("drive_store")), store, *BEFORE_LATER]
+    command = [*subject.drive("stores"), store, *BEFORE_LATER]
     held = 0
     with new_folder() as folder:
         for _, run in runs(Refusals(subject, folder), command, folder, False):
@@ -152,7 +152,7 @@ def check_later_state(subject: Subject, report: Report, store: str) -> None:
 def check_append_to_many(subject: Subject, report: Report) -> None:
     """An append to 4,095 pairs in slots is made with every allocation after its tenth refused. With all from the
     eleventh last on refused the call before it is refused already, so the append asks for ten at most."""
-    command = [str(subject.driver("drive_store")), "slots", *TO_MANY]
+    command = [*subject.drive("stores"), "slots", *TO_MANY]
     with new_folder() as folder:
         refusals = Refusals(subject, folder)
         whole = refusals.run(command, folder, 0)
@@ -168,7 +168,7 @@ def held_after(subject: Subject, report: Report, store: str, calls: List[str], f
     """How many pieces of memory are held at the end of these calls and of others that change nothing."""
     script = [*calls, *["redo"] * filling]
     with new_folder() as folder:
-        whole = Refusals(subject, folder).run([str(subject.driver("drive_store")), store, *script], folder, 0)
+        whole = Refusals(subject, folder).run([*subject.drive("stores"), store, *script], folder, 0)
     found = follow(script, whole.ended.output.decode())
     report.check(f"{len(calls)} calls of {store}", [found.fault] if found.fault else [])
     return whole.held

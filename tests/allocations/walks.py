@@ -44,7 +44,7 @@ class Swept(NamedTuple):
 def command_of(subject: Subject, store: str, case: str, moves: List[str]) -> List[Word]:
     given = from_folder(CASES / case).files
     texts = [given.get(name, b"") for name in ("dictionary", "request", "policy")]
-    return [subject.driver("drive_walk"), store, *texts, *moves]
+    return [*subject.drive("walks"), store, *texts, *moves]
 
 
 def trace_of(subject: Subject, store: str, case: str) -> List[Stand]:

@@ -20,8 +20,12 @@ class Subject:
     program: Path
 
     def driver(self, name: str) -> Path:
-        """A program of the crates that only tests run."""
+        """A program by the name of its crate."""
         return self.root / "crates" / name / "out" / name
+
+    def drive(self, name: str) -> List[str]:
+        """The command of a program of `drive`, which only tests and the benchmark run, by its name there."""
+        return [str(self.driver("drive")), name]
 
     @property
     def kit(self) -> Path:

@@ -38,7 +38,7 @@ def faults_of_part(subject: Subject, part: Path) -> "list[str]":
 
 def faults_of(subject: Subject, path: Path) -> "list[str]":
     """What is wrong with the reading of one file and what it includes."""
-    ended = run([subject.driver("drive_configuration"), path], path.parent)
+    ended = run([*subject.drive("configuration"), path], path.parent)
     found = []
     if ended.status or not files_of(ended.output):
         found.append(f"{path}: {ended.status}, {ended.output[-200:]!r}")

@@ -38,7 +38,7 @@ def written(folder: Path, files: Dict[str, bytes]) -> Path:
 
 
 def read(subject: Subject, path: Path) -> Ended:
-    return run([subject.driver("drive_configuration"), path], path.parent)
+    return run([*subject.drive("configuration"), path], path.parent)
 
 
 def faults_of(ended: Ended) -> List[str]:

@@ -31,8 +31,8 @@ SITE = "policy {{\n\t$INCLUDE {raddb}/policy.d/\n}}\n$INCLUDE {path}\n"
 PART = "authorize {{\n{text}}}\n"
 PASSES = {
     "policies of Debian's packages": (),
-    "policies of Debian's packages with other lists": ("--dictionary",),
-    "policies of Debian's packages with other lists and functions": ("--dictionary", "--stub-functions"),
+    "policies of Debian's packages with other lists": ("--write-dictionary",),
+    "policies of Debian's packages with other lists and functions": ("--write-dictionary", "--stub-functions"),
 }
 COUNTS = re.compile(r"^(\d+) of (\d+) statements kept", re.M)
 REASON = re.compile(r"^[^ :]+:\d+: (.*?)(?: \((\d+) statements\))?$", re.M)
@@ -180,12 +180,12 @@ def source_of(case: Case, raddb: Path, folder: Path) -> Path:
 
 def kept_of(subject: Subject, raddb: Path, dictionaries: Path, case: Case, options: Sequence[str]) -> Kept:
     named = dictionary_words(dictionaries)
-    with_others = "--dictionary" in options
+    with_others = "--write-dictionary" in options
     with new_folder() as folder:
         source = source_of(case, raddb, folder)
         words = ["--json", *case.words, "-o", folder / "policy", *named]
         for option in options:
-            words += [option, folder / "others"] if option == "--dictionary" else [option]
+            words += [option, folder / "others"] if option == "--write-dictionary" else [option]
         ended = run([subject.driver("radpolicy_import"), *words, source], folder)
         if ended.status:
             return Kept(0, 0, 0, [], [f"{case.name}: {ended.errors[-200:]!r}"])

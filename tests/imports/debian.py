@@ -21,6 +21,8 @@ SECTIONS = (
 COUNTS = re.compile(rb"^(\d+) of (\d+) statements kept, (\d+) module calls are comments$", re.M)
 NAMED = re.compile(r"^([a-z0-9_.\-]+)\s*\{", re.M | re.I)
 PROFILE = b"# profile: wider"
+# The line by which the program knows its files.
+OWN = b"# Written by radpolicy-import; "
 ORIGIN = re.compile(rb"  # [^ ]+:[1-9][0-9]*(?: \(.*\))?$")
 
 
@@ -55,7 +57,7 @@ def faults_of(
     with new_folder() as folder:
         policy, others = folder / "policy", folder / "dictionary.others"
         if with_others:
-            words = [*words, "--dictionary", str(others)]
+            words = [*words, "--write-dictionary", str(others)]
         command = [subject.driver("radpolicy_import"), *words, "-o", policy, *dictionary_words(dictionaries), raddb]
         ended = run(command, folder)
         if ended.status == 2 and b"E02" in ended.errors:
@@ -66,7 +68,7 @@ def faults_of(
         faults = []
         if ended.seconds > SECONDS or ended.kilobytes > KILOBYTES:
             faults.append(f"{words}: {ended.seconds:.1f} s, {ended.kilobytes} kB")
-        lines = [line for line in policy.read_bytes().splitlines() if line != PROFILE]
+        lines = [line for line in policy.read_bytes().splitlines() if line != PROFILE and not line.startswith(OWN)]
         faults += [f"{words}: {line!r}" for line in lines if not ORIGIN.search(line)]
         names = [path.split("=", 1)[1] for path in dictionary_words(dictionaries)]
         if with_others:

@@ -50,7 +50,8 @@ KEY = "changeme"
 # Those whose warnings are of nothing that these requests have.
 SURE = (
     "captures", "captured_by_the_last", "texts_of_absent", "compared_texts", "compared_captures",
-    "either_of_two_texts", "long_texts", "in_octets", *REWRITING)
+    "either_of_two_texts", "long_texts", "in_octets", "names_without_signs", "names_that_are_values", "texts_of_octets",
+    "numbers_in_hexadecimal", "codes_with_actions", *REWRITING)
 # What a report warns of that is about no request but those of the policies below.
 QUIET = ("long-expansion", "tagged-octets")
 
@@ -71,9 +72,21 @@ OF_SOME: Dict[str, Warned] = {
         lambda sent: len("Hello, " + sent["User-Name"]) > 253),
     "octets_in_texts": Warned(
         "long-expansion", (), (1, 124, 125, 126, 253), lambda sent: len("c" + sent.get("Class", "")) > 253),
+    "repeated_nothing": Warned("", (), (), lambda sent: True),
+    "braces_with_blanks": Warned("", (), (), lambda sent: "b" in sent["User-Name"]),
+    "edges_of_words": Warned("", (), (), lambda sent: True),
+    "empty_with_a_tag": Warned("empty-tagged", (), (), lambda sent: True),
     "tagged_names": Warned(
         "tagged-octets", ("0x31", "0x4142", "0xzz", "0x123"), (), lambda sent: sent["User-Name"].startswith("0x")),
 }
+# Those of attributes that have values named as other attributes are.
+NAMES_AND_VALUES = [
+    ("Acct-Terminate-Cause", "Idle-Timeout"), ("Acct-Terminate-Cause", "Session-Timeout"),
+    ("Service-Type", "Framed-Management"), ("Ascend-Disconnect-Cause", "Session-Timeout"),
+    ("Annex-System-Disc-Reason", "Session-Timeout"), ("Cisco-Disconnect-Cause", "Idle-Timeout"),
+    ("Cisco-Disconnect-Cause", "Session-Timeout"), ("Acc-Reason-Code", "Idle-Timeout"),
+    ("Shiva-Disconnect-Reason", "Idle-Timeout"), ("USR-HARC-Disconnect-Code", "Session-Timeout"),
+]
 # Those that the plain profile has, with octets in place of what they mean.
 PLAIN = ("in_octets", "texts_in_octets")
 # Those that are called where the reply is made.
@@ -187,6 +200,39 @@ WRITTEN: Dict[str, str] = {
     "octets_in_quotes": 'update reply {\nClass := "0x' + 150 * "0b" + '"\n}\n',
     "octal_addresses": 'update reply {\nFramed-IP-Address := 010.1.2.3\nFramed-IP-Netmask := "255.255.0377.00"\n}\n'
     'if (&reply:Framed-IP-Address == 010.1.2.3) {\nupdate reply {\nReply-Message += "an address"\n}\n}\n',
+    "names_without_signs": 'update control {\nUser-Name := User-Name\nConnect-Info := control:Connect-Info\n}\n'
+    'if (&NAS-Port == Service-Type) {\nupdate reply {\nReply-Message += "the port of the service"\n}\n}\n'
+    'if (&User-Name != REQUEST:calling-station-id) {\nupdate reply {\nReply-Message += "not the station"\n}\n}\n'
+    'if (&Service-Type == Attr-5) {\nupdate reply {\nReply-Message += "by number"\n}\n}\n'
+    'if (control:User-Name == request:User-Name) {\nupdate reply {\nReply-Message += "the same"\n}\n}\n'
+    'if (!(&Calling-Station-Id == config:User-Name) || &Class) {\nupdate reply {\nReply-Message += "another, or a class"\n}\n}\n'
+    'update reply {\nFilter-Id := Calling-Station-Id\nFilter-Id += User-Name[0]\nReply-Message += NAS-Port\n'
+    'Reply-Message += Attr-1\nClass := Class\nSession-Timeout := NAS-Port\nReply-Message += User-Name-x\n'
+    'Reply-Message += User-Name:1\nReply-Message += "User-Name"\nReply-Message += control:User-Name\n}\n'
+    'switch &NAS-Port {\ncase Service-Type {\nupdate reply {\nReply-Message += "the same"\n}\n}\ncase 3 {\nupdate reply {\n'
+    'Reply-Message += "three"\n}\n}\ncase {\nupdate reply {\nReply-Message += "another"\n}\n}\n}\n',
+    "names_that_are_values": "update request {\nIdle-Timeout := 77\nSession-Timeout := 77\nFramed-Management := 77\n}\n"
+    + "".join(
+        f'update control {{\n{name} := &NAS-Port\n{name} := 77\n}}\nif (&control:{name} == {word}) {{\nupdate reply {{\n'
+        f'Reply-Message += "{name} is {word}"\n}}\n}}\nif (&control:{name} == "{word}") {{\nreject\n}}\n'
+        f'update reply {{\n{name} := {word}\n}}\nswitch &control:{name} {{\ncase {word} {{\nupdate reply {{\n'
+        f'Reply-Message += "the case of {name}"\n}}\n}}\n}}\n'
+        for name, word in NAMES_AND_VALUES),
+    "numbers_in_hexadecimal": 'update reply {\nTunnel-Type:1 := 0x0d\nTunnel-Type += "0xA"\nTunnel-Medium-Type := 0x00000006\n'
+    'Tunnel-Private-Group-Id:1 := "13"\n}\n',
+    "texts_of_octets": 'update reply {\nClass := "c%{%{Calling-Station-Id}:-none}"\nReply-Message := "before"\n}\n'
+    'update reply {\nClass += "%{%{Calling-Station-Id}:-none}"\nReply-Message += "after"\n}\n',
+    "codes_with_actions": 'update reply {\nReply-Message := "before"\n}\nif (&NAS-Port == 2) {\nok {\nok = reject\n}\n}\n'
+    'if (&NAS-Port == 3) {\nreject {\nok = return\n}\n}\nok {\nnoop = return\n}\nupdate reply {\nReply-Message += "after"\n}\n'
+    'updated {\nupdated = return\n}\n',
+    "repeated_nothing": 'if (&User-Name =~ /^([a-z]*\\.?)*/m) {\nupdate reply {\nReply-Message := "%{0} and %{1}"\n}\n}\n',
+    "braces_with_blanks": 'if (&User-Name =~ /b{1, 2}/m) {\nupdate reply {\nReply-Message := "a b"\n}\n}\n',
+    "edges_of_words": 'if (&User-Name =~ /[[:<:]]e/) {\nupdate reply {\nReply-Message += "begins"\n}\n}\n'
+    'if (&User-Name =~ /b[[:>:]]/) {\nupdate reply {\nReply-Message += "ends"\n}\n}\n',
+    "empty_with_a_tag": 'update reply {\nTunnel-Private-Group-Id:1 := ""\nReply-Message := "after"\n}\n',
+    "texts_that_are_false": 'if ("0" || \'false\') {\nreject\n}\nif ("00" && !"0" && "no") {\nupdate reply {\n'
+    'Reply-Message := "true"\n}\n}\n',
+    "signs_that_are_escaped": 'update reply {\nReply-Message := "a\\\'b\\501"\nReply-Message += \'a\\\'b ${name}\'\n}\n',
     "one_in_another": 'deny_realms\nif (&Service-Type == Login-User && &NAS-Port <= 2) {\nservice\n}\n',
 }
 CONFIGURATION = """prefix = /usr
@@ -390,7 +436,7 @@ def of_policy(subject: Subject, policy: str, dictionaries: List[str], request: s
 def imported(subject: Subject, folder: Path, dictionaries: Path, name: str) -> Tuple[str, List[str]]:
     """The report of the import of a policy, and the dictionaries that it is read with."""
     others = folder / f"{name}.dictionary"
-    words = ["--server", name, "--dictionary", others, "-o", folder / f"{name}.policy"]
+    words = ["--server", name, "--write-dictionary", others, "-o", folder / f"{name}.policy"]
     words += ["--section", section_of(name)]
     if name in REWRITING:
         words.append("--stub-functions")

@@ -4,14 +4,21 @@ import json
 import re
 import subprocess
 from pathlib import Path
-from typing import List, Sequence, Tuple
+from typing import Dict, List, Sequence, Tuple
 
 from common.report import Report
-from common.subject import Subject, on_all
+from common.subject import Subject, new_folder, on_all
 from help.helping import environment, words_of
+from lint import answering
 
 HERE = Path(__file__).parent
 DEADLINE = 120
+# A row of SERVER.md's table of what is answered: names between backticks, and the name of the warning.
+ANSWERED = re.compile(r"^\| (?P<names>`[^|]*?) \(\[`(?P<warning>[a-z-]+)`\]\(FORMATS\.md#warnings\)\) \| ", re.M)
+TABLE = re.compile(r"^pub const (?P<name>\w+_(?:ATTRIBUTES|ENDINGS)): \[&str; \d+\] = \[(?P<names>[^\]]*)\];", re.M)
+WARNINGS = {
+    "SERVER_ATTRIBUTES": "virtual-attribute", "PACKET_ATTRIBUTES": "virtual-attribute",
+    "MODULE_ATTRIBUTES": "module-comparison", "MODULE_ENDINGS": "module-comparison"}
 FAULT = re.compile(rb"radpolicy: (E\d+) policy:(\d+): (.*)\n")
 
 
@@ -48,7 +55,61 @@ def first_fault_differs(subject: Subject, folder: Path) -> List[str]:
     return [] if own == status and wanted.fullmatch(first) else [f"{own}, {first!r} for {errors!r}"]
 
 
+def check_paths(subject: Subject, report: Report) -> None:
+    """The path of a file gets to no terminal as it is."""
+    with new_folder() as folder:
+        name = "p\x9b2J\x1b[2J"
+        (folder / name).write_bytes(b"rejected\n")
+        dictionaries = sorted(map(str, (subject.root / "dictionaries").glob("dictionary*")))
+        outputs = [ended(subject.driver("radpolicy_lint"), folder, ["--format", form, "--policy", name, *dictionaries])[1]
+                   for form in ("text", "gcc", "json")]
+    wrong = [f"{it!r}" for it in outputs if b"302" not in it or b"\x9b" in it or b"\x1b" in it or b"u001b" in it]
+    report.check("lint: paths with control characters", wrong)
+
+
+def told_answers(subject: Subject) -> Dict[str, str]:
+    """The attributes that a server answers, by the section of SERVER.md, and the warnings that it names."""
+    _, begun = (subject.root / "docs/SERVER.md").read_text().split("\n### Attributes that a server answers\n")
+    section, *_ = begun.split("\n### ")
+    rows = ANSWERED.finditer(section)
+    return {name: row["warning"] for row in rows for name in re.findall("`([^`]+)`", row["names"])}
+
+
+def known_answers(subject: Subject) -> Dict[str, str]:
+    """The same by the tables of the source."""
+    source = (subject.root / "crates/policy_warnings/src/server_attributes.rt").read_text()
+    tables = {table["name"]: re.findall('"([^"]+)"', table["names"]) for table in TABLE.finditer(source)}
+    return {name: WARNINGS[table] for table, names in tables.items() for name in names}
+
+
+def warned_of(subject: Subject, folder: Path, name: str) -> List[str]:
+    """The names of the warnings of a policy that compares an attribute with a text."""
+    (folder / "dictionary").write_text(f"ATTRIBUTE {name} 3000 string\n")
+    (folder / "policy").write_text(f'if (&{name} == "x") {{\n\tok\n}}\n')
+    words = ["--format", "gcc", "--policy", "policy", "dictionary"]
+    _, output, _ = ended(subject.driver("radpolicy_lint"), folder, words)
+    return re.findall(r"^policy:1: warning: .* \[(.*)\]$", output.decode(), re.MULTILINE)
+
+
+def check_answers(subject: Subject, report: Report) -> None:
+    """The table of SERVER.md has what the source has, and each row has its warning."""
+    told, known = told_answers(subject), known_answers(subject)
+    wrong = [f"{name}: {warning}" for name, warning in sorted(told.items() ^ known.items())]
+    with new_folder() as folder:
+        for name, warning in told.items():
+            own = f"second{name}" if name.startswith("-") else name
+            for spelled in (own, own.upper()):
+                found = warned_of(subject, folder, spelled)
+                wrong += [] if found == [warning] else [f"{spelled}: {found}"]
+        for name in ("Grouping", "SQL-Groups", "Packet", "User-Name"):
+            wrong += [f"{name}: {found}" for found in warned_of(subject, folder, name)]
+    report.check(f"lint: {len(told)} names that a server answers", wrong)
+
+
 def check(subject: Subject, report: Report) -> None:
+    check_paths(subject, report)
+    check_answers(subject, report)
+    answering.check(subject, report)
     program = subject.driver("radpolicy_lint")
     folders = sorted(path.parent for path in HERE.glob("*/wanted"))
     for folder, wrong in zip(folders, on_all(lambda folder: faults_of(program, folder), folders)):

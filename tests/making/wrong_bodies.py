@@ -1,4 +1,5 @@
 """`make wrong-bodies`: how the wrong bodies of a crate are tried together, and judged, by a stand-in for the prover."""
+import json
 import os
 import shutil
 import subprocess
@@ -62,6 +63,30 @@ pub fn odd(n: u8) -> bool {
     // inner::odd:
     n == 1 || even(n - 1)
 }
+
+#[tactic(
+    auto,
+)]
+pub fn first() -> u8 {
+    // inner::first:
+    ZERO
+}
+
+impl Number {
+    pub fn next(&self) -> u8 {
+        // Number::next:
+        self.value() + 1
+    }
+}
+
+pub struct Two<T>(T, T);
+
+impl Two<Number> {
+    pub fn last(&self) -> Number {
+        // inner::Two+Number::last:
+        self.1
+    }
+}
 """,
 }
 
@@ -73,12 +98,17 @@ def refused(place: str, name: str) -> str:
 ALONE_AT = "refused, over the whole crate, at src/lib.rt:16: it is not proved that what middle ensures holds"
 BY_A_NAME = "refused, only because a proof file names what the edit took away, at proofs/Number/value/Answers.antt:7"
 NOT_REFUSED = "NOT REFUSED: the crate is still proved"
+BY_A_LIMIT = "refused, over the whole crate, only by a limit of the prover's: rattle: no verdict: antt ran out of stack"
 BAD = "BAD EDIT: it did not reach the prover"
+NOT_TRIED = "NOT TRIED: its check ended with status 3: rattle: no verdict"
 TOGETHER = {
     "of_a_function": (LIB, "one()", "other", refused("lib.rt:11", "low")),
     "of_a_method": (LIB, "self.0", "other", refused("lib.rt:27", "Number::value")),
     "of_an_impl": (LIB, "digits.number()", "other", refused("lib.rt:34", "NumberFromDigits::from")),
     "of_a_module": (INNER, "n == 0", "other", refused("inner.rt:4", "inner::even")),
+    "of_a_type_elsewhere": (INNER, "self.value() + 1", "other", refused("inner.rt:24", "Number::next")),
+    "of_a_type_of_numbers": (INNER, "self.1", "other", refused("inner.rt:33", "inner::Two+Number::last")),
+    "without_an_end": (INNER, "ZERO", "unsearched", "refused at src/inner.rt:13: no proof"),
 }
 IN_TURN = {
     "called": (LIB, "one()", "other", refused("lib.rt:11", "low")),
@@ -94,8 +124,10 @@ ALONE = {
     "of_a_contract": (LIB, "result ≡ 1", "result ≡ 2", NOT_REFUSED),
     "right": (LIB, "three()", "3", NOT_REFUSED),
     "of_no_text": (LIB, "four()", "4", "BAD EDIT: its text is in src/lib.rt 0 times: four()"),
+    "of_the_same_text": (LIB, "one()", "one()", "BAD EDIT: it changes nothing"),
     "unreadable": (INNER, "n == 0", "unreadable", f"{BAD}: error[syntax]: src/inner.rt:4"),
-    "without_a_verdict": (INNER, "n == 1", "unended", f"{BAD}: rattle: no verdict"),
+    "without_a_verdict": (INNER, "n == 1", "unended", NOT_TRIED),
+    "past_a_limit": (INNER, "n == 1", "unlimited", BY_A_LIMIT),
 }
 IN_GATE = {"of_the_gate": (LIB, "two()", "other", refused("lib.rt:16", "middle"))}
 
@@ -106,8 +138,11 @@ class Tree:
     def __init__(self, subject: Subject, root: Path) -> None:
         self._root = root
         self._wanted = root / "wanted"
+        shutil.copytree(STAND_IN, root / "kit")
+        (root / "kit/KIT-ID").write_text("kit-1 logic 0\n")
         (root / "scripts").mkdir()
-        shutil.copytree(subject.root / "scripts/wrong_bodies", root / "scripts/wrong_bodies")
+        for name in ("kit_code", "proof_store", "wrong_bodies"):
+            shutil.copytree(subject.root / "scripts" / name, root / "scripts" / name)
         for name in ("try-wrong-bodies", "at-once"):
             shutil.copy(subject.root / "scripts" / name, root / "scripts" / name)
         self._write("crates.txt", "lower:\ntried: lower\n")
@@ -120,8 +155,8 @@ class Tree:
         (self._root / file).parent.mkdir(parents=True, exist_ok=True)
         (self._root / file).write_text(text)
 
-    def build(self, crate: str) -> None:
-        self._write(f"crates/{crate}/out/rlib/{crate}.rlib/format", "")
+    def build(self, crate: str, text: str = "") -> None:
+        self._write(f"crates/{crate}/out/rlib/{crate}.rlib/format", text)
 
     def change(self, crate: str) -> None:
         """Makes a source of the crate newer than all that is built."""
@@ -136,10 +171,22 @@ class Tree:
     def take_edits(self) -> None:
         shutil.rmtree(self._root / "crates/tried/wrong-bodies")
 
-    def run(self, *words: str) -> "subprocess.CompletedProcess[str]":
+    def add_to(self, crate: str, text: str) -> None:
+        """Adds a text to a source of the crate."""
+        self._write(f"crates/{crate}/{LIB}", (self._root / "crates" / crate / LIB).read_text() + text)
+
+    def age(self, record: str, seconds: float) -> None:
+        """Makes a record of the store older."""
+        file = self._root / "cache/radpolicy/kit-1" / record / "record"
+        kept = json.loads(file.read_text())
+        kept["proved_at"] -= seconds
+        file.write_text(json.dumps(kept))
+
+    def run(self, *words: str, anew: bool = True) -> "subprocess.CompletedProcess[str]":
         self._wanted.write_text("")
         script = self._root / "scripts/try-wrong-bodies"
-        environment = {**os.environ, "RT": str(STAND_IN / "bin/rt"), "WANTED": str(self._wanted)}
+        environment = {**os.environ, "RT": str(self._root / "kit/bin/rt"), "WANTED": str(self._wanted)}
+        environment.update({"XDG_CACHE_HOME": str(self._root / "cache"), "FROM_NOTHING": "1" if anew else ""})
         how = {"stdout": subprocess.PIPE, "stderr": subprocess.STDOUT, "text": True}
         return subprocess.run([script, *words], env=environment, stdin=subprocess.DEVNULL, **how)
 
@@ -148,9 +195,9 @@ class Tree:
         return self._wanted.read_text().splitlines()
 
 
-def faults(tree: Tree, wanted: Mapping[str, str], passed: int, *words: str) -> List[str]:
+def faults(tree: Tree, wanted: Mapping[str, str], passed: int, *words: str, anew: bool = True) -> List[str]:
     """What is wrong where the wrong bodies are tried, and this is wanted to be said of each."""
-    ran = tree.run(*words)
+    ran = tree.run(*words, anew=anew)
     said, failed = ran.stdout.splitlines(), len(wanted) - passed
     begun = [f"tried/{name}: {text}" for name, text in wanted.items()]
     wrong = [f"{it!r} is not said" for it in begun if not any(line.startswith(it) for line in said)]
@@ -169,21 +216,23 @@ def said_of(edits: Edits) -> Mapping[str, str]:
 
 def check_judged(tree: Tree, report: Report) -> None:
     """What fits into one copy in one check; the others in turn; and alone what that does not tell of."""
-    four = "Number::value NumberFromDigits::from inner::even low"
+    methods = "Number::next Number::value NumberFromDigits::from inner::Two+Number::last"
+    all_of_them = f"{methods} inner::even inner::first low"
     tree.give(TOGETHER)
-    wrong = faults(tree, said_of(TOGETHER), 4) + faults_of_checks(tree, four, four)
+    wrong = faults(tree, said_of(TOGETHER), 7) + faults_of_checks(tree, all_of_them, all_of_them)
     report.check("wrong bodies: of a crate that is not built, and as it is", wrong)
     tree.build("tried")
-    report.check("wrong bodies: in one check", faults(tree, said_of(TOGETHER), 4) + faults_of_checks(tree, four))
+    report.check("wrong bodies: in one check", faults(tree, said_of(TOGETHER), 7) + faults_of_checks(tree, all_of_them))
     tree.take_edits()
     tree.give(IN_TURN)
     turns = ["inner::even low middle", "inner::odd low middle", "middle", "inner::even inner::odd low middle"]
     report.check("wrong bodies: in turn", faults(tree, said_of(IN_TURN), 5) + faults_of_checks(tree, *turns))
     tree.take_edits()
     tree.give(ALONE)
-    wrong = faults(tree, said_of(ALONE), 2)
-    # All but the one with no text to change; and the crate as it is.
-    wrong += [] if tree.checks().count("all") == len(ALONE) else [f"it checks {tree.checks()}"]
+    wrong = faults(tree, said_of(ALONE), 3)
+    # All but the two that change no text and the one that is refused by a name; once more what is still proved, and what
+    # has no verdict; the crate as it is.
+    wrong += [] if tree.checks().count("all") == len(ALONE) + 2 else [f"it checks {tree.checks()}"]
     report.check("wrong bodies: alone", wrong)
     tree.take_edits()
 
@@ -191,7 +240,7 @@ def check_judged(tree: Tree, report: Report) -> None:
 def check_chosen(tree: Tree, report: Report) -> None:
     """Those of the gate, those of a crate, and none where a library is lacking or older than a source."""
     tree.give(TOGETHER)
-    tree.give(IN_GATE, "must-fail")
+    tree.give(IN_GATE, "wrong-bodies/gate")
     report.check("wrong bodies: of the gate", faults(tree, said_of(IN_GATE), 1, "--gate"))
     both = {**said_of(TOGETHER), **said_of(IN_GATE)}
     report.check("wrong bodies: of a crate", faults(tree, both, len(both), "tried"))
@@ -204,8 +253,40 @@ def check_chosen(tree: Tree, report: Report) -> None:
     report.check("wrong bodies: over an old library", faults(tree, older, 0) + faults_of_checks(tree))
 
 
+def check_kept(tree: Tree, report: Report) -> None:
+    """What was refused is not tried again until the crate, a library below it, an edit or the day is another."""
+    tree.give(TOGETHER)
+    tree.build("tried")
+    all_of_them = "Number::next Number::value NumberFromDigits::from inner::Two+Number::last inner::even inner::first low"
+
+    def checked(what: str, *checks: str) -> None:
+        wrong = faults(tree, said_of(TOGETHER), 7, anew=False) + faults_of_checks(tree, *checks)
+        report.check(f"wrong bodies: {what}", wrong)
+
+    checked("tried at first", all_of_them)
+    checked("kept then")
+    tree.add_to("tried", "\n")
+    tree.build("tried")
+    checked("of another source", all_of_them)
+    tree.build("lower", "other")
+    checked("over another library", all_of_them)
+    tree.age("tried.wrong-bodies", 24 * 60 * 60)
+    checked("of yesterday", all_of_them)
+    tree.give(IN_GATE)
+    wrong = faults(tree, {**said_of(TOGETHER), **said_of(IN_GATE)}, 8, anew=False)
+    report.check("wrong bodies: with one more", wrong + ([] if tree.checks() else ["nothing is checked"]))
+    tree.take_edits()
+    tree.give({"right": ALONE["right"]})
+    for _ in range(2):
+        wrong = faults(tree, said_of({"right": ALONE["right"]}), 0, anew=False)
+        wrong += [] if tree.checks() else ["nothing is checked"]
+    report.check("wrong bodies: what is not refused is not kept", wrong)
+    tree.take_edits()
+
+
 def check(subject: Subject, report: Report) -> None:
     with new_folder() as folder:
         tree = Tree(subject, folder)
         check_judged(tree, report)
+        check_kept(tree, report)
         check_chosen(tree, report)

@@ -9,6 +9,7 @@ from typing import Dict, List, NamedTuple, Tuple
 
 from common.report import Report
 from common.subject import Subject, new_folder
+from outputs.writers import OF_PAGE
 from page.browser import Browser, installed, new_browser
 
 WIDER = "# profile: wider\n"
@@ -187,12 +188,24 @@ def check_files(subject: Subject, report: Report, folder: Path) -> None:
     report.check("page without secrets", wrong)
     page_of(subject, made, "-o", "page.html")
     written = made.folder.joinpath("page.html").read_bytes()
-    report.check("page in a file", [] if written == page and not list(made.folder.glob("*.new")) else ["it is another"])
+    report.check("page in a file", [] if OF_PAGE.without_mark(written) == page else ["it is another"])
     report.check("page of fixed parts", faults_of_fixed_parts(subject, page))
     source = subject.root / "examples/transactions"
     page = page_of(subject, Made(source, ["-f", "request", "--policy", "policy", *files_of(subject)]))
     kept = subject.root.joinpath("docs/page-of-transactions.html").read_bytes()
     report.check("page in the documents", [] if page == kept else ["it is another: write it anew"])
+
+
+def check_lines(subject: Subject, report: Report, folder: Path) -> None:
+    """Lines are read in the wider profile, whatever their first line is."""
+    folder.joinpath("request").write_text('User-Name = "bob"\nTunnel-Type:1 = VLAN\n')
+    folder.joinpath("reply").write_text("Tunnel-Type:2 = VLAN\n")
+    folder.joinpath("control").write_text("Login-IPv6-Host = 2001:db8::1\n")
+    folder.joinpath("policy").write_text(WIDER + "ok\n")
+    lists = ["--reply", "reply", "--control", "control"]
+    page = page_of(subject, Made(folder, ["-f", "request", *lists, "--policy", "policy", *files_of(subject)]))
+    pairs = (b"Tunnel-Type:1 = VLAN", b"Tunnel-Type:2 = VLAN", b"Login-IPv6-Host = 2001:db8::1")
+    report.check("page of lines with tags", [f"{it!r} is not in the page" for it in pairs if it not in page])
 
 
 def check_in_browser(subject: Subject, report: Report, browser: Browser, folder: Path) -> None:
@@ -225,6 +238,8 @@ def check(subject: Subject, report: Report) -> None:
     with new_folder() as folder:
         folder.joinpath("hidden").mkdir()
         check_files(subject, report, folder / "hidden")
+        folder.joinpath("lines").mkdir()
+        check_lines(subject, report, folder / "lines")
         program = installed()
         if not program:
             report.say("page: what a browser shows is left out, there is no chromium")

@@ -53,7 +53,7 @@ def check(subject: Subject, report: Report) -> None:
     source = random.Random(SEED)
     for name, lines in (("IPv6 addresses", list(addresses(source))), ("dates", list(dates(source)))):
         asked = "".join(line + "\n" for line, _ in lines).encode()
-        run = subprocess.run([str(subject.driver("drive_forms"))], input=asked, stdout=subprocess.PIPE, check=True)
+        run = subprocess.run(subject.drive("forms"), input=asked, stdout=subprocess.PIPE, check=True)
         answers = run.stdout.decode().splitlines()
         wrong = [f"{line}: {answer}, not {wanted}" for (line, wanted), answer in zip(lines, answers) if answer != wanted]
         if len(answers) != len(lines):

@@ -69,6 +69,8 @@ User-Name =~ /bob/
 &User-Name =~ /bob\neve/
 &User-Name =~ /(?i)BOB/
 &User-Name =~ /(?i:B)ob/
+&Service-Type =~ /(?i)u/
+&Service-Type =~ /\(?user/i
 &User-Name =~ /(?m)^eve/
 &User-Name =~ /\xe9/
 &User-Name =~ /[\x80-\xff]/
@@ -179,8 +181,10 @@ TAKEN = {
     r"&User-Name =~ /[\w-.]/": "E59",
     r"&User-Name =~ /[[d]/": "E59",
     r"&User-Name =~ /b(?R)?o/": "E59",
+    r"&User-Name =~ /[(?u)]/": "E59",
     r"&User-Name =~ /%{NAS-Port}/": "E58",
     r"&User-Name[*] =~ /bob/": "E50",
+    r"&User-Name =~ /bob/ii": "E50",
     r'"%{User-Name}x" =~ /bobx/': "E61",
 }
 # What is taken here alone.
@@ -193,6 +197,9 @@ REFUSED = {
     r"&User-Name =~ /[bob/": "E59",
     r"&User-Name =~ /b{3,2}/": "E59",
     r"&User-Name =~ /[z-a]/": "E59",
+    r"&User-Name =~ /(?u)^.$/": "E59",
+    r"&User-Name =~ /b(?-u:o)b/": "E59",
+    r"&User-Name =~ /b(?iu:o)b/": "E59",
     r"&User-Name =~ /bob/g": "E50",
     r"&User-Name =~ /bob/s": "E50",
     r"&User-Name =~ /bob/x": "E50",
@@ -200,6 +207,7 @@ REFUSED = {
     r"&User-Name =~ /bob": "E50",
     r'&User-Name =~ "bob"': "E50",
     r"&User-Name =~ bob": "E50",
+    r"&User-Name !~ bob": "E50",
     r"&Nosuch-Name =~ /bob/": "E32",
 }
 # What a condition tells where it holds: the number of it.

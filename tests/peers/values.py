@@ -60,7 +60,15 @@ DIFFERENT = [
     Row(put("PMIP6-Home-IPv4-HoA := 0x00080a000000"),
         ["PMIP6-Home-IPv4-HoA = 10.0.0.0/32"], ["PMIP6-Home-IPv4-HoA = 10.0.0.0/8"]),
     Row(told_if("&Framed-IPv6-Prefix == 0x002020010db8"), [], [TOLD]),
+    Row(put(r'Filter-Id := "a\nb"', 'Class := "x%{reply:Filter-Id}"'),
+        [r'Filter-Id = "a\nb"', "Class = 0x78615c6e62"], [r'Filter-Id = "a\nb"', "Class = 0x78610a62"]),
+    Row(put(r'Reply-Message := "a\\%{Class}"'),
+        [r'Reply-Message = "a\\%{Class}"'], [r'Reply-Message = "a\\0x6162"']),
+    Row('update request {\nFilter-Id := "bob"\n}\n' + told_if("&Filter-Id == 0x626f62"), [TOLD], []),
+    Row(told_if('&Filter-Id == "bob"') + told_if("&Module-Failure-Message"), [TOLD], []),
 ]
+# A prefix in fewer octets is the whole one in a condition, though not in an update.
+ALIKE = [Row(told_if("&Framed-IPv6-Prefix == 2001:db8::/32"), [TOLD], [TOLD])]
 # Request lines, and how `run` prints them; and first lines, and whether they choose the profile.
 READ = {
     "Tunnel-Type:01 = VLAN": "Tunnel-Type:1 = VLAN",
@@ -93,7 +101,8 @@ TAKEN_HERE = [
 
 def check_sent(subject: Subject, report: Report) -> None:
     """What both send is what the rows say."""
-    given = [Case(f"row-{at}", row.policy) for at, row in enumerate(DIFFERENT)]
+    rows = [*DIFFERENT, *ALIKE]
+    given = [Case(f"row-{at}", row.policy) for at, row in enumerate(rows)]
     with new_folder() as folder:
         (folder / "secret").write_text(SECRET + "\n")
         (folder / "policy").write_text(policy_of(given))
@@ -101,7 +110,7 @@ def check_sent(subject: Subject, report: Report) -> None:
         port = free_port()
         with server(folder, port, policy_of(given)) as is_ready:
             report.check("the server takes the values", [] if is_ready else [(folder / "log").read_text()[-2000:]])
-            for case, row in zip(given, DIFFERENT if is_ready else []):
+            for case, row in zip(given, rows if is_ready else []):
                 request = REQUEST.format(name=case.name)
                 theirs, ours = of_server(port, request), of_program(subject, folder, request)
                 wrong = [f"a server sends {theirs}, not {row.of_server}"] if theirs != row.of_server else []

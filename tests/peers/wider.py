@@ -53,11 +53,13 @@ UPDATES = [
     ["Tunnel-Type:01 := VLAN", 'Event-Timestamp := "Nov 04 2026 10:00:00 UTC"'],
     ["Tunnel-Type:5 := &request:Tunnel-Type", "Tunnel-Private-Group-Id := &request:Tunnel-Private-Group-Id:2"],
     ["Framed-IPv6-Prefix := 2001:db8:1:2:3::1/64", "Framed-Interface-Id := 1:2:3:4", "PMIP6-Home-IPv4-HoA := 10.0.0.0/8"],
+    ["Framed-IPv6-Prefix := ::/0008", "PMIP6-Home-IPv4-HoA := 10.0.0.0/0008"],
     ["Login-IPv6-Host := 2001:db8:0:0:1::", 'Event-Timestamp := "Nov  4 2026 10:00:00 UTC"'],
     ["NAS-IPv6-Address := &request:NAS-IPv6-Address", 'Login-IPv6-Host := "%{request:NAS-IPv6-Address}"'],
 ]
 # What the repository's dictionaries lack.
 DICTIONARY = """ATTRIBUTE PMIP6-Home-IPv4-HoA 155 ipv4prefix
+ATTRIBUTE Module-Failure-Message 1076 string
 VALUE Tunnel-Type GRE 10
 VALUE Tunnel-Medium-Type IPv4 1
 VALUE Tunnel-Medium-Type IPv6 2

@@ -13,6 +13,7 @@ from replays.records import Place, records
 
 RECORDS = 1_100
 CUT = 3
+NAMELESS = 40
 MANY = 200_000
 # More than pipes and buffers hold.
 MIDDLE = 4_000
@@ -66,6 +67,16 @@ def check_answers(place: Place, report: Report) -> None:
     report.check("replay: a line is that of its record", wrong)
 
 
+def check_nameless(place: Place, report: Report) -> None:
+    """Lines without a packet are called by their numbers, and the others are answered as without them."""
+    text = [line for line in records(NAMELESS).splitlines(keepends=True) if line.strip()]
+    said = place.replay(b"".join(text)).output.splitlines()
+    mixed = place.replay(b"".join(b"frame no packet\n" + line for line in text)).output.splitlines()
+    wrong = [] if mixed[1::2] == said else ["the others are answered otherwise"]
+    wrong += [f"{line!r}" for at, line in enumerate(mixed[::2]) if not line.startswith(b"%d E05 " % (2 * at + 1))]
+    report.check("replay: lines without a packet", wrong)
+
+
 def check_cuts(place: Place, report: Report) -> None:
     """Input that ends after each octet."""
     text = records(CUT)
@@ -87,10 +98,10 @@ def check_hostile(place: Place, report: Report) -> None:
     ended = place.replay(b"frame " + b"a" * LONG_LINE + b"\n" + text, before=limit_memory)
     is_right = ended.output == b"1 E46 packet too long\n" + place.replay(text).output
     report.check("replay: a line of 100 MB", [] if is_right else [f"{ended}"])
-    ended = place.replay(b"\0\xff\x1b[31m " + text)
-    is_right = ended.output.startswith(b"\\000\\377\\033[31mframe0") or b"\\033[31m" in ended.output
-    wrong = [] if is_right and not {*ended.output} & {0, 27, 255} else [f"{ended.output!r}"]
-    report.check("replay: octets that are no text", wrong)
+    for word, name in ((b"\0\xff\x1b]2;x", b"\\000\\377\\033]2;x"), (b"\0\xff\x1b[31m", b"1")):
+        ended = place.replay(word + b" " + text)
+        wrong = [] if ended.output == name + place.replay(text).output[len(b"frame0") :] else [f"{ended.output!r}"]
+        report.check(f"replay: octets that are no text, of a record called {name.decode()}", wrong)
     many = place.replay(text * (MANY // 2), before=limit_memory)
     wrong = [] if many.status == 0 and many.output.count(b"\n") == MANY else [f"{many.status}: {many.errors!r}"]
     report.check(f"replay: {MANY} records in {many.seconds:.2f} s", wrong)
@@ -166,5 +177,5 @@ def check_counter(place: Place, report: Report) -> None:
 def check(subject: Subject, report: Report) -> None:
     with new_folder() as folder:
         place = Place(subject, folder)
-        for part in (check_answers, check_cuts, check_hostile, check_streams, check_closed, check_counter):
+        for part in (check_answers, check_nameless, check_cuts, check_hostile, check_streams, check_closed, check_counter):
             part(place, report)

@@ -1,5 +1,6 @@
 """Records of several clients by `radpolicy-replay --clients`: each as by the secret of its client alone."""
 import ipaddress
+import os
 import re
 from pathlib import Path
 from random import Random
@@ -109,8 +110,23 @@ def check_refused(place: Place, report: Report) -> None:
     report.check("replay: clients and a secret", [] if both.status == 2 and b"E01" in both.errors else [f"{both}"])
 
 
+def check_pipes(place: Place, report: Report) -> None:
+    """Clients from a pipe are read; a pipe that they include is not waited for."""
+    program = str(place.subject.driver("radpolicy_replay"))
+    (place.folder / "including").write_text('$INCLUDE "pipe"\n')
+    os.mkfifo(place.folder / "pipe")
+    words = [program, "--policy", place.policy, "--clients", "including", str(DICTIONARY)]
+    ended = run(["timeout", "10", *words], place.folder, b"")
+    is_right = ended.status == 2 and b"E02 including:1: " in ended.errors and b"neither a file nor a folder" in ended.errors
+    report.check("replay: clients that include a pipe", [] if is_right else [f"{ended}"])
+    words[words.index("including")] = "/dev/fd/3"
+    piped = ["sh", "-c", 'cat sections | { exec 3<&0 </dev/null; timeout 10 "$@"; }', "sh", *words]
+    ended = run(piped, place.folder, b"")
+    report.check("replay: clients from a pipe", [] if ended.status == 0 else [f"{ended}"])
+
+
 def check(subject: Subject, report: Report) -> None:
     with new_folder() as folder:
         place = Place(subject, Path(folder))
-        for part in (check_clients, check_refused):
+        for part in (check_clients, check_refused, check_pipes):
             part(place, report)

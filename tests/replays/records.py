@@ -19,8 +19,8 @@ update reply {
     Reply-Message := "Hello, %{User-Name}"
 }
 """
-# Words that are no packet, and packets that are refused.
-BROKEN = (b"", b"no packet", b"00" * 20, b"0101" + b"0" * 37, b"05" + b"07" * 19, b"01" * 5000)
+# Packets that are refused.
+BROKEN = (b"00" * 20, b"0101" + b"0" * 37, b"05" + b"07" * 19, b"01" * 5000)
 
 
 # How fast a run was that took a second or more.

@@ -83,15 +83,28 @@ def check_captured(place: Place, report: Report) -> None:
 
 def check_words(place: Place, report: Report) -> None:
     (place.folder / "records").write_bytes(b"")
-    for words in (["-S", "secret"], ["--clients", "secret"], ["--to-hex"]):
+    for words in (["-S", "secret"], ["--clients", "secret"]):
         said = command(place, "--no-secret", *words)
         is_right = said.status == 2 and b"E01" in said.errors
         report.check(f"replay: no secret and {words[0]}", [] if is_right else [f"{said}"])
+
+
+def check_known(place: Place, report: Report) -> None:
+    """Packets that --to-hex makes without a secret are answered by the program's own."""
+    lines = b'User-Name = "bob"\nUser-Password = "hello"\n'
+    program = place.subject.driver("radpolicy_replay")
+    made = run([program, "--to-hex", "--no-secret", "--format", "records", str(DICTIONARY)], place.folder, lines)
+    (place.folder / "known").write_bytes(b"radpolicy\n")
+    (place.folder / "asking").write_bytes(b'if (&User-Password == "hello") { reject }\n')
+    words = ["--policy", "asking", "-S", "known", str(DICTIONARY)]
+    said = run([program, *words], place.folder, made.output)
+    is_right = (made.status, said.status) == (0, 0) and said.output.startswith(b"1 reject stopped 03")
+    report.check("replay: packets of --to-hex --no-secret", [] if is_right else [f"{made}, {said}"])
 
 
 def check(subject: Subject, report: Report) -> None:
     with new_folder() as folder:
         place = Place(subject, folder)
         (folder / "nothing").write_bytes(b"ok\n")
-        for part in (check_answers, check_hidden, check_captured, check_words):
+        for part in (check_answers, check_hidden, check_captured, check_words, check_known):
             part(place, report)

@@ -153,7 +153,7 @@ def ask(port: int, kind: str, requests: str, *words: str) -> str:
 
 def told(subject: Subject, text: bytes) -> "tuple[str, list]":
     """The format that a text is told to have, and each record's user, type and reply, with the source that is named."""
-    lines = run([subject.driver("drive_traffic")], subject.root, text).output.decode().splitlines()
+    lines = run(subject.drive("traffic"), subject.root, text).output.decode().splitlines()
     found: list = []
     for line in lines[1:]:
         head = HEAD.fullmatch(line)

@@ -3,7 +3,8 @@
 ghost use Rattle.radpolicy.specs.Plans.{IsSound, asked_by_job};
 
 use crate::commands::RUN;
-use crate::program::{Source, job_of};
+use crate::program::{Source, job_of, words_of};
+use attribute_tests::samples::{TEST_DICTIONARY, test_dictionary};
 use avp_dict::{Dictionary, FileSet};
 use avp_forms::Profile;
 use avp_lists::{List, Store};
@@ -13,7 +14,6 @@ use radpolicy::{
     Start, WriteOutput, answer, help_text, option_text, print_fault, read_input, read_words,
     status,
 };
-use samples::{TEST_DICTIONARY, test_dictionary};
 use std::alloc::Global;
 use std::process::Abort;
 use std::test::Fail;
@@ -228,7 +228,8 @@ fn answer_run(rt: &impl Abort, alloc: Global) -> Result<(), Fail> {
         ("-", b"NAS-Port = 3"),
         ("p", b"reject"),
     ];
-    let plan = read_words(alloc, &RUN)?;
+    let words = words_of(alloc, RUN)?;
+    let plan = read_words(alloc, &words)?;
     let job = job_of(alloc, &sources, &plan)?;
     does_a_job(rt, alloc, &job)
 }

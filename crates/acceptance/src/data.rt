@@ -1,7 +1,7 @@
-//! What several worked examples share: more attributes, an authenticator, and the files of a run.
+//! What the worked rows share: more attributes, an authenticator, and what lies at the paths of words.
 
 use crate::program::Source;
-use samples::TEST_DICTIONARY;
+use attribute_tests::samples::TEST_DICTIONARY;
 
 /// An attribute of each type that is no text, and two whose flag makes them octets.
 pub const TYPES: &[u8] = b"ATTRIBUTE Ty-B 201 byte
@@ -15,20 +15,25 @@ ATTRIBUTE Ty-T 208 integer has_tag
 ATTRIBUTE Ty-U 209 string has_tag
 ";
 
-/// The authenticator of the request in RFC 2865, section 7.1, as a word.
-pub const AUTHENTICATOR: &str = "0f403f9473978057bd83d5cb98f4227a";
-
-/// The same as octets.
+/// The authenticator of the request in RFC 2865, section 7.1.
 pub const AUTHENTICATOR_OCTETS: [u8; 16] = [
     0x0f, 0x40, 0x3f, 0x94, 0x73, 0x97, 0x80, 0x57, 0xbd, 0x83, 0xd5, 0xcb, 0x98, 0xf4, 0x22, 0x7a,
 ];
 
-/// The test dictionary, a request, a policy, and the secret of one letter.
-pub fn run_sources<'a>(request: &'a [u8], policy: &'a [u8]) -> [Source<'a>; 4] {
+/// A value of an attribute with a tag.
+pub const TAGGED: &[u8] = b"ATTRIBUTE Tunnel-Type 64 integer has_tag\nVALUE Tunnel-Type PPTP 1\n";
+
+/// A request, a policy, and what else a row's words may name: dictionaries and secrets.
+pub fn sources_of<'a>(request: &'a [u8], policy: &'a [u8]) -> [Source<'a>; 9] {
     [
-        ("d", TEST_DICTIONARY),
         ("-", request),
         ("p", policy),
+        ("d", TEST_DICTIONARY),
+        ("t", TYPES),
+        ("v", TAGGED),
+        ("n", b""),
         ("s", b"s"),
+        ("x", b"xyzzy5461\n"),
+        ("e", b"\n"),
     ]
 }

@@ -16,6 +16,9 @@ use std::test::Fail;
 /// A path and what is there.
 pub type Source<'a> = (&'a str, &'a [u8]);
 
+/// The status, and the output, or where the status is not 0 the line of the fault.
+pub type End<'a> = (u8, &'a [u8]);
+
 /// What the program left: its status, its standard output and its standard error.
 #[derive(Drop)]
 pub struct Finished {
@@ -147,44 +150,48 @@ pub fn program(alloc: Global, words: &[&str], sources: &[Source]) -> Result<Fini
     }
 }
 
-/// The program on these words is done, and printed this.
-pub fn expect_output(
-    rt: &impl Abort,
-    alloc: Global,
-    words: &[&str],
-    sources: &[Source],
-    wanted: &[u8],
-) -> Result<(), Fail> {
-    let finished = program(alloc, words, sources)?;
-    assert_eq!(rt; finished.errors.as_slice(), b"".as_slice());
-    assert_eq!(rt; finished.status, 0);
-    assert_eq!(rt; finished.output.as_slice(), wanted);
-    Ok(())
+/// The words of a command line.
+pub fn words_of<'a>(alloc: Global, text: &'a str) -> Result<Vec<&'a str>, AllocError> {
+    let mut words = Vec::new(alloc);
+    for word in text.split_whitespace() {
+        words.push(word)?;
+    }
+    Ok(words)
 }
 
-/// The program on these words is done, and printed the packet of these digits.
-pub fn expect_packet(
+/// The program on these words ends so, and prints nothing else.
+pub fn expect_end(
     rt: &impl Abort,
     alloc: Global,
-    words: &[&str],
+    words: &str,
     sources: &[Source],
-    digits: &[u8],
+    end: End<'_>,
 ) -> Result<(), Fail> {
-    let mut wanted = Vec::from_slice(alloc, b"packet ")?;
-    wanted.extend_from_slice(digits)?;
-    wanted.push(b'\n')?;
-    expect_output(rt, alloc, words, sources, &wanted)
+    let words = words_of(alloc, words)?;
+    let finished = program(alloc, &words, sources)?;
+    let (status, wanted) = end;
+    let nothing: &[u8] = b"";
+    let (output, errors) = if status == 0 {
+        (wanted, nothing)
+    } else {
+        (nothing, wanted)
+    };
+    assert_eq!(rt; finished.errors.as_slice(), errors);
+    assert_eq!(rt; finished.status, status);
+    assert_eq!(rt; finished.output.as_slice(), output);
+    Ok(())
 }
 
 /// The program on these words has a write fault at a writer of this room, and put out the front of the report.
 pub fn expect_write_fault(
     rt: &impl Abort,
     alloc: Global,
-    words: &[&str],
+    words: &str,
     sources: &[Source],
     front: &[u8],
 ) -> Result<(), Fail> {
-    let plan = read_words(alloc, words).map_err(|_| "a plan")?;
+    let words = words_of(alloc, words)?;
+    let plan = read_words(alloc, &words).map_err(|_| "a plan")?;
     let job = job_of(alloc, sources, &plan)?;
     let mut writer = Narrow {
         held: Vec::new(alloc),
@@ -195,44 +202,4 @@ pub fn expect_write_fault(
     assert_eq!(rt; status(&Fault::Write), 3);
     assert_eq!(rt; writer.held.as_slice(), front);
     Ok(())
-}
-
-/// The program on these words is refused with this line and this status, and printed nothing else.
-pub fn expect_fault(
-    rt: &impl Abort,
-    alloc: Global,
-    words: &[&str],
-    sources: &[Source],
-    wanted: &[u8],
-    status: u8,
-) -> Result<(), Fail> {
-    let finished = program(alloc, words, sources)?;
-    assert_eq!(rt; finished.errors.as_slice(), wanted);
-    assert_eq!(rt; finished.status, status);
-    assert!(rt; finished.output.is_empty());
-    Ok(())
-}
-
-// The last line of a text.
-fn last_line(text: &[u8]) -> &[u8] {
-    let mut last: &[u8] = &[];
-    for line in text.split(|octet| *octet == b'\n') {
-        if !line.is_empty() {
-            last = line;
-        }
-    }
-    last
-}
-
-/// The octets of the packet that the last line shows.
-pub fn sent_octets(alloc: Global, output: &[u8]) -> Result<Vec<u8>, Fail> {
-    let digits = last_line(output)
-        .strip_prefix(b"packet ")
-        .ok_or("a packet")?;
-    Ok(hex::decode(alloc, digits).map_err(|_| "hexadecimal digits")?)
-}
-
-/// The octets of the packet that the program sends on these words.
-pub fn sent(alloc: Global, words: &[&str], sources: &[Source]) -> Result<Vec<u8>, Fail> {
-    sent_octets(alloc, &program(alloc, words, sources)?.output)
 }

@@ -1,11 +1,12 @@
-//! Runs of whole policies, each as its report, the labels of its steps and its reply.
+//! Runs of whole policies, each as its report.
 
-use crate::commands::{RUN, RUN_ACCOUNTING, run_access};
-use crate::data::{AUTHENTICATOR_OCTETS, run_sources};
-use crate::program::{expect_output, program, sent_octets};
-use crate::walks::expect_walk;
-use avp_packet::check_reply;
-use samples::NESTED_TRANSACTIONS;
+use crate::commands::{RUN, RUN_ACCESS, RUN_ACCESS_5, RUN_ACCOUNTING, RUN_PACKET, RUN_STANDARD};
+use crate::data::sources_of;
+use crate::packets::{SIGNED_REQUEST, STANDARD_REQUEST};
+use crate::program::expect_end;
+use crate::unnamed_attributes::UNNAMED;
+use crate::values::VALUES;
+use attribute_tests::samples::NESTED_TRANSACTIONS;
 use std::alloc::Global;
 use std::process::Abort;
 use std::test::Fail;
@@ -18,50 +19,33 @@ pub const ABSENT_SOURCE: &[u8] = b"update reply {
 }
 ";
 
-const GREETING: &[u8] = b"if (&NAS-Port >= 7 && !&Class) {
+/// A text of expansions, below a condition.
+pub const GREETING: &[u8] = b"if (&NAS-Port >= 7 && !&Class) {
 \tupdate reply { Reply-Message := \"hi %{User-Name} on %{NAS-Port}%{Class}\" }
 }
 else { reject }
 ";
 
-// Were `||` to bind more tightly than `&&`, this would not hold.
-const MIXED_CONDITION: &[u8] = b"if (ok || fail && reject) { noop }";
+/// Were `||` to bind more tightly than `&&`, this would not hold.
+pub const MIXED_CONDITION: &[u8] = b"if (ok || fail && reject) { noop }";
 
-// The run of the policy on request lines, without a secret.
-fn expect_run<'a>(
-    rt: &impl Abort,
-    alloc: Global,
-    request: &'a [u8],
-    policy: &'a [u8],
-    wanted: &[u8],
-) -> Result<(), Fail> {
-    expect_output(rt, alloc, &RUN, &run_sources(request, policy), wanted)
-}
+/// Words, the request, the policy, the status, and the report or the line of a fault.
+pub type Run = (
+    &'static str,
+    &'static [u8],
+    &'static [u8],
+    u8,
+    &'static [u8],
+);
 
-/// The packet of the run with a secret, after a report that begins so.
-pub fn expect_reply<'a>(
-    rt: &impl Abort,
-    alloc: Global,
-    identifier: &str,
-    request: &'a [u8],
-    policy: &'a [u8],
-    report: &[u8],
-) -> Result<Vec<u8>, Fail> {
-    let sources = run_sources(request, policy);
-    let finished = program(alloc, &run_access(identifier), &sources)?;
-    assert_eq!(rt; finished.status, 0);
-    assert!(rt; finished.output.starts_with(report));
-    let octets = sent_octets(alloc, &finished.output)?;
-    assert!(rt; check_reply(&octets, &AUTHENTICATOR_OCTETS, b"s"));
-    Ok(octets)
-}
-
-// Requests, policies, and the report of the run without a secret.
-const RUNS: [(&[u8], &[u8], &[u8]); 5] = [
+// The Response Authenticators were computed elsewhere.
+const RUNS: [Run; 15] = [
     // Refused transactions are taken back.
     (
+        RUN,
         b"",
         NESTED_TRANSACTIONS,
+        0,
         b"request
 reply
   Class = 0x01
@@ -72,8 +56,10 @@ result reject
     ),
     // An update stops at an absent source.
     (
+        RUN,
         b"User-Name = \"u\"\n",
         ABSENT_SOURCE,
+        0,
         b"request
   User-Name = \"u\"
 reply
@@ -83,8 +69,10 @@ result fail stopped
     ),
     // Attributes are expanded in a text.
     (
+        RUN,
         b"User-Name = bob\nNAS-Port = 7\n",
         GREETING,
+        0,
         b"request
   User-Name = \"bob\"
   NAS-Port = 7
@@ -96,14 +84,22 @@ result ok
     ),
     // `&&` binds more tightly than `||`.
     (
+        RUN,
         b"",
         MIXED_CONDITION,
-        b"request\nreply\ncontrol\nresult noop\n",
+        0,
+        b"request
+reply
+control
+result noop
+",
     ),
     // An expanded text is read as a number.
     (
+        RUN,
         b"User-Name = \"300\"",
         b"update control { Session-Timeout := \"%{User-Name}\" }",
+        0,
         b"request
   User-Name = \"300\"
 reply
@@ -112,157 +108,172 @@ control
 result ok
 ",
     ),
-];
-
-#[test]
-fn reports_runs(rt: HostRuntime) -> Result<(), Fail> {
-    for (request, policy, wanted) in RUNS {
-        expect_run(&rt, rt.alloc(), request, policy, wanted)?;
-    }
-    Ok(())
-}
-
-// Scripts, requests, policies, and what the walk prints.
-const WALKS: [(&[u8], &[u8], &[u8], &[u8]); 5] = [
-    // Each step of transactions has its label, and the lists are shown after both rollbacks.
+    // The code is fail where an update failed, and a reply is a reject.
     (
-        b"forward forward forward forward forward forward forward forward forward show
-forward forward forward forward show forward forward",
-        b"",
-        NESTED_TRANSACTIONS,
-        b"1 line 1 ok
-2 enter 2 ok
-3 line 3 ok
-4 enter 4 ok
-5 line 5 ok
-6 enter 6 ok
-7 line 7 ok
-8 word 8 fail
-9 rollback 6 fail
-request
-reply
-  Class = 0x03
-control
-10 line 10 fail
-11 commit 4 fail
-12 word 12 reject
-13 rollback 2 reject
-request
-reply
-  Class = 0x01
-control
-14 line 14 reject
-14 line 14 reject stays
-",
-    ),
-    // So has a line with an absent source.
-    (
-        b"end",
+        RUN_ACCESS_5,
         b"User-Name = \"u\"\n",
         ABSENT_SOURCE,
-        b"3 line 4 failed P1 fail\n",
-    ),
-    // A condition that holds.
-    (
-        b"forward forward forward",
-        b"User-Name = bob\nNAS-Port = 7\n",
-        GREETING,
-        b"1 if 1 true ok\n2 line 2 ok\n2 line 2 ok stays\n",
-    ),
-    // A mixed condition.
-    (
-        b"forward forward",
-        b"",
-        MIXED_CONDITION,
-        b"1 if 1 true ok\n2 word 1 noop\n",
-    ),
-    // An expanded text that is no value.
-    (
-        b"end",
-        b"User-Name = \"300\"",
-        b"update control { Session-Timeout := \"%{User-Name}x\" }",
-        b"1 line 1 failed P2 fail\n",
-    ),
-];
-
-#[test]
-fn labels_the_steps_of_runs(rt: HostRuntime) -> Result<(), Fail> {
-    for (script, request, policy, wanted) in WALKS {
-        expect_walk(&rt, rt.alloc(), script, request, policy, wanted)?;
-    }
-    Ok(())
-}
-
-#[test]
-fn rejects_where_an_update_failed(rt: HostRuntime) -> Result<(), Fail> {
-    let octets = expect_reply(
-        &rt,
-        rt.alloc(),
-        "5",
-        b"User-Name = \"u\"\n",
-        ABSENT_SOURCE,
+        0,
         b"request
   User-Name = \"u\"
 reply
 control
 result fail stopped
+packet 03050014ff2643188d4c2e313c198fc24cd94775
 ",
-    )?;
-    assert_eq!(rt; octets.len(), 20);
-    assert!(rt; octets.starts_with(&[3, 5, 0, 20]));
-    Ok(())
-}
-
-#[test]
-fn answers_no_rejected_accounting_request(rt: HostRuntime) -> Result<(), Fail> {
-    let sources = run_sources(b"Acct-Status-Type = Start", b"reject");
-    let wanted = b"request
+    ),
+    // A rejected Accounting-Request is not answered, another one is.
+    (
+        RUN_ACCOUNTING,
+        b"Acct-Status-Type = Start",
+        b"reject",
+        0,
+        b"request
   Acct-Status-Type = Start
 reply
 control
 result reject stopped
 packet none
-";
-    expect_output(&rt, rt.alloc(), &RUN_ACCOUNTING, &sources, wanted)
-}
-
-// A name of 253 octets is as long as a value may be, and longer than what can be hidden.
-#[test]
-fn fails_where_a_value_is_too_long(rt: HostRuntime) -> Result<(), Fail> {
-    let alloc = rt.alloc();
-    let mut request = Vec::from_slice(alloc, b"User-Name = ")?;
-    for _ in 0..253 {
-        request.push(b'a')?;
-    }
-    let policies: [&[u8]; 2] = [
-        b"update reply { Reply-Message := \"%{User-Name}x\" }",
-        b"update reply { User-Password := &User-Name }",
-    ];
-    for policy in policies.iter() {
-        let wanted = b"1 line 1 failed P3 fail\n";
-        expect_walk(&rt, alloc, b"end", &request, policy, wanted)?;
-    }
-    Ok(())
-}
-
-#[test]
-fn sends_only_proxy_states_back_where_the_code_is_fail(rt: HostRuntime) -> Result<(), Fail> {
-    let octets = expect_reply(
-        &rt,
-        rt.alloc(),
-        "0",
+",
+    ),
+    (
+        RUN_ACCOUNTING,
+        b"Acct-Status-Type = Start",
+        b"",
+        0,
+        b"request
+  Acct-Status-Type = Start
+reply
+control
+result ok
+packet 05000014f3b4fd2979fc457e5b3a40dcee7ed7dc
+",
+    ),
+    // Where the code is fail only Proxy-States are sent back, and else they too.
+    (
+        RUN_ACCESS,
         b"Proxy-State = 0x0a0b",
         b"update reply { Class += 0x01 } transaction { fail }",
+        0,
         b"request
   Proxy-State = 0x0a0b
 reply
   Class = 0x01
 control
 result fail
+packet 03000018ac466e20fcbdc9518331cd5d4489f11321040a0b
 ",
-    )?;
-    assert_eq!(rt; octets.len(), 24);
-    assert!(rt; octets.starts_with(&[3, 0, 0, 24]));
-    assert!(rt; octets.ends_with(&[0x21, 4, 0x0a, 0x0b]));
+    ),
+    (
+        RUN_ACCESS,
+        b"Proxy-State = 0x0a0b",
+        b"update reply { Reply-Message := \"\" }",
+        0,
+        b"request
+  Proxy-State = 0x0a0b
+reply
+  Reply-Message = \"\"
+control
+result ok
+packet 020000185c6373894019b6b4e71a7cd35e7ed3d721040a0b
+",
+    ),
+    // The packets of RFC 2865, section 7.1.
+    (
+        RUN_STANDARD,
+        STANDARD_REQUEST,
+        b"update reply {
+\tService-Type := Login-User
+\tLogin-Service := Telnet
+\tLogin-IP-Host := 192.168.1.3
+}
+",
+        0,
+        b"request
+  User-Name = \"nemo\"
+  User-Password = \"arctangent\"
+  NAS-IP-Address = 192.168.1.16
+  NAS-Port = 3
+reply
+  Service-Type = Login-User
+  Login-Service = Telnet
+  Login-IP-Host = 192.168.1.3
+control
+result ok
+packet 0200002686fe220e7624ba2a1005f6bf9b55e0b20606000000010f06000000000e06c0a80103
+",
+    ),
+    // The reply to a signed request is signed, whatever the policy gives for it.
+    (
+        RUN_PACKET,
+        SIGNED_REQUEST,
+        b"",
+        0,
+        b"request
+  User-Name = \"u\"
+  Attr-80 = 0x12c10da18ce04bb1fcf42c68a7eb68ae
+reply
+control
+result ok
+packet 020000265887ab16a71d434b8acbe9f265da25595012e55ff7fe6520f0fde1e13578b98000f5
+",
+    ),
+    (
+        RUN_PACKET,
+        SIGNED_REQUEST,
+        b"update reply { Attr-80 := 0x01 }",
+        0,
+        b"request
+  User-Name = \"u\"
+  Attr-80 = 0x12c10da18ce04bb1fcf42c68a7eb68ae
+reply
+  Attr-80 = 0x01
+control
+result ok
+packet 020000265887ab16a71d434b8acbe9f265da25595012e55ff7fe6520f0fde1e13578b98000f5
+",
+    ),
+    (
+        RUN_PACKET,
+        SIGNED_REQUEST,
+        b"reject",
+        0,
+        b"request
+  User-Name = \"u\"
+  Attr-80 = 0x12c10da18ce04bb1fcf42c68a7eb68ae
+reply
+control
+result reject stopped
+packet 030000266525c641da6df0861346b9d564cb8685501210f1f93382974ea9c5fa9c9ae0a16318
+",
+    ),
+    // An Accounting-Response is not.
+    (
+        RUN_ACCOUNTING,
+        b"Attr-80 = 0x00",
+        b"",
+        0,
+        b"request
+  Attr-80 = 0x00
+reply
+control
+result ok
+packet 050000141a180f00935af4f713e7d4d90d3787fb
+",
+    ),
+];
+
+fn expect_runs(rt: &impl Abort, alloc: Global, rows: &[Run]) -> Result<(), Fail> {
+    for (words, request, policy, status, wanted) in rows {
+        let sources = sources_of(request, policy);
+        expect_end(rt, alloc, words, &sources, (*status, wanted))?;
+    }
     Ok(())
+}
+
+#[test]
+fn reports_runs(rt: HostRuntime) -> Result<(), Fail> {
+    expect_runs(&rt, rt.alloc(), &RUNS)?;
+    expect_runs(&rt, rt.alloc(), &VALUES)?;
+    expect_runs(&rt, rt.alloc(), &UNNAMED)
 }

@@ -169,7 +169,7 @@ fn reads_the_words_of_commands(rt: HostRuntime) -> Result<(), Fail> {
 }
 
 #[test]
-fn reads_a_run(rt: HostRuntime) -> Result<(), Fail> {
+fn reads_what_is_asked_for(rt: HostRuntime) -> Result<(), Fail> {
     let words = ["radpolicy", "run", "d", "-fr", "--policy=p", "x/e"];
     let plan = read_words(rt.alloc(), words.as_slice()).map_err(|_| "a plan")?;
     assert!(rt; plan.command == Command::Run);
@@ -180,11 +180,6 @@ fn reads_a_run(rt: HostRuntime) -> Result<(), Fail> {
     let plan = read_words(rt.alloc(), words.as_slice()).map_err(|_| "a plan")?;
     assert!(rt; plan.dictionaries.as_slice() == ["d", "-f"].as_slice());
     assert!(rt; plan.request == None);
-    Ok(())
-}
-
-#[test]
-fn reads_what_a_packet_is_made_of(rt: HostRuntime) -> Result<(), Fail> {
     let words = [
         "radpolicy",
         "encode",

@@ -2,12 +2,13 @@
 
 ghost use Rattle.std.specs.Prelude.{Some};
 
-use crate::commands::{RUN_PACKET, STEP};
-use crate::packets::{REQUEST, SECRET};
-use crate::program::{Source, job_of};
-use crate::walks::THERE_AND_BACK;
+use crate::commands::{RUN, RUN_STANDARD, STEP};
+use crate::data::sources_of;
+use crate::packets::STANDARD_REQUEST;
+use crate::program::{Source, expect_write_fault, job_of, words_of};
+use crate::steps::THERE_AND_BACK;
+use attribute_tests::samples::{NESTED_TRANSACTIONS, TEST_DICTIONARY};
 use radpolicy::{Fault, WriteOutput, answer, read_words};
-use samples::{NESTED_TRANSACTIONS, TEST_DICTIONARY};
 use std::alloc::Global;
 use std::io;
 use std::io::Write;
@@ -45,10 +46,11 @@ impl Write for OneByOne {
 fn expect_fronts(
     rt: &impl Abort,
     alloc: Global,
-    words: &[&str],
+    words: &str,
     sources: &[Source],
 ) -> Result<(), Fail> {
-    let plan = read_words(alloc, words).map_err(|_| "a plan")?;
+    let words = words_of(alloc, words)?;
+    let plan = read_words(alloc, &words).map_err(|_| "a plan")?;
     let job = job_of(alloc, sources, &plan)?;
     let mut report = Vec::new(alloc);
     answer(alloc, &job, &mut WriteOutput::new(&mut report)).map_err(|_| "a report")?;
@@ -65,23 +67,17 @@ fn expect_fronts(
 }
 
 #[test]
-fn puts_out_the_front_of_a_run(rt: HostRuntime) -> Result<(), Fail> {
+fn puts_out_the_front_of_a_report(rt: HostRuntime) -> Result<(), Fail> {
+    let alloc = rt.alloc();
     let policy = b"update reply { Service-Type := Login-User }";
-    let sources: [Source; 4] = [
-        ("d", TEST_DICTIONARY),
-        ("-", REQUEST),
-        ("s", SECRET),
-        ("p", policy),
-    ];
-    expect_fronts(&rt, rt.alloc(), &RUN_PACKET, &sources)
-}
-
-#[test]
-fn puts_out_the_front_of_a_walk(rt: HostRuntime) -> Result<(), Fail> {
-    let sources: [Source; 3] = [
+    let run = sources_of(STANDARD_REQUEST, policy);
+    expect_fronts(&rt, alloc, RUN_STANDARD, &run)?;
+    let walk: [Source; 3] = [
         ("d", TEST_DICTIONARY),
         ("p", NESTED_TRANSACTIONS),
         ("s", THERE_AND_BACK),
     ];
-    expect_fronts(&rt, rt.alloc(), &STEP, &sources)
+    expect_fronts(&rt, alloc, STEP, &walk)?;
+    expect_write_fault(&rt, alloc, STEP, &walk, b"14 line 14")?;
+    expect_write_fault(&rt, alloc, RUN, &[], b"req")
 }

@@ -12,7 +12,7 @@ use Rattle.std.proofs.NetLemmas.Alphabet.{All-hex_groups_text, All-ipv4_text, Is
 use Rattle.std.proofs.NetLemmas.Texts.{AllSegments, AllSegments-drop, IsDotted-ipv4_text}
 use Rattle.avp_dict.proofs.Numerals.{decimal_numeral, digits_numeral, numeral_without}
 use Rattle.avp_forms.specs.Ipv6Addresses.{ipv6_address_text, ipv6_spelled}
-use Rattle.avp_forms.specs.Numerals.{number_within, short_number}
+use Rattle.avp_forms.specs.Numerals.{number_within}
 use Rattle.avp_forms.specs.Prefixes.{ipv4_prefix_spelled, ipv4_prefix_text, ipv4_spelled, ipv6_prefix_spelled, ipv6_prefix_text, is_slash, masked, prefix_of}
 use Rattle.avp_forms.proofs.AddressLaws.{address_back}
 use Rattle.avp_forms.proofs.AddressTexts.{whole_ipv4}
@@ -54,12 +54,11 @@ plain_ipv6 xs h =
 
 -- ---- an address, a slash and a length
 
-length_back : (most n : ℕ) → n ≤ most → most < 1000 → short_number 3 10 most (decimal n) ≡ Some n
-unfolding short_number number_within
+length_back : (most n : ℕ) → n ≤ most → most < 1000 → number_within 10 most (decimal n) ≡ Some n
+unfolding number_within
 length_back most n h low =
-    let short : leb (length (decimal n)) 3 ≡ true = le-leb _ _ (length-decimal-le 3 n (omega arith) (omega arith) (omega arith)) in
     let numeral = decimal_numeral n (omega arith) in
-    rw (short, digits_numeral n (decimal n) numeral, le-leb n most h)
+    rw (digits_numeral n (decimal n) numeral, le-leb n most h)
 
 prefix_back : (address : List ℕ → Option (List ℕ)) (most n : ℕ) (text os : List ℕ) → All Plain text → address text ≡ Some os → n ≤ most → most < 1000 → masked n os ≡ os → prefix_of address most (slice_split is_slash (text ++ (47 ∷ decimal n))) ≡ Some (os, n)
 prefix_back address most n text os plain there h low own =

@@ -5,7 +5,7 @@ use Rattle.std.specs.List.{slice_split}
 use Rattle.std.specs.Net.Reader.{read_ipv4, whole_value}
 use Rattle.std.specs.Net.Text.{ipv4_text}
 use Rattle.avp_forms.specs.Ipv6Addresses.{ipv6_address_text, ipv6_spelled}
-use Rattle.avp_forms.specs.Numerals.{short_number}
+use Rattle.avp_forms.specs.Numerals.{number_within}
 
 -- ---- bits
 
@@ -24,10 +24,10 @@ masked n (octet ∷ octets) = first_bits n octet ∷ masked (n - 8) octets
 abbrev pub is_slash : ℕ → Bool
 is_slash o = o == 47
 
--- an address and a length of one to three decimal digits, with the bits past the length cleared
+-- an address and a length in decimal digits, zeros before them or not, with the bits past it cleared
 abbrev pub prefix_of : (List ℕ → Option (List ℕ)) → ℕ → List (List ℕ) → Option (List ℕ × ℕ)
 prefix_of address most (before ∷ after ∷ []) =
-    option_and_then (λ octets. option_map (λ n. (masked n octets, n)) (short_number 3 10 most after))
+    option_and_then (λ octets. option_map (λ n. (masked n octets, n)) (number_within 10 most after))
     (address before)
 prefix_of address most _ = None
 

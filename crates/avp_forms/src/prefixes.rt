@@ -6,7 +6,7 @@ ghost use Rattle.avp_forms.specs.Comparisons.{holds_prefix, prefix_order};
 ghost use Rattle.avp_forms.specs.Prefixes.{first_bits, ipv4_prefix_spelled, ipv4_prefix_text, ipv4_spelled, ipv6_prefix_spelled, ipv6_prefix_text, length_text, masked};
 
 use crate::ipv6_addresses::{ipv6_spelled, push_ipv6};
-use crate::numerals::short_number;
+use crate::numerals::number_within;
 use crate::parts::first_between;
 use crate::short_texts::{MAX_SHORT, ShortText, push_all, push_ipv4, push_number};
 use arrayvec::ArrayVec;
@@ -88,7 +88,7 @@ pub fn ipv6_prefix_spelled(text: &[u8]) -> Option<([u8; 16], u8)>
         Some(_) => None,
         None => {
             let octets = ipv6_spelled(address)?;
-            let length = short_number(3, 10, 128, length)? as u8;
+            let length = number_within(10, 128, length)? as u8;
             Some((masked_16(length, octets), length))
         }
     }
@@ -104,7 +104,7 @@ pub fn ipv4_prefix_spelled(text: &[u8]) -> Option<([u8; 4], u8)>
         Some(_) => None,
         None => {
             let octets = ipv4_spelled(address)?;
-            let length = short_number(3, 10, 32, length)? as u8;
+            let length = number_within(10, 32, length)? as u8;
             Some((masked_4(length, octets), length))
         }
     }

@@ -1,7 +1,7 @@
 -- What is refused is no pattern, and it is refused for one thing.
-use Rattle.std.proofs.Common.{◌≡◌, ◌≢◌, ℕ, List, [], true, false, true≢false, Some, None, sym, ap, subst, ◌∙◌, is_some, refl}
+use Rattle.std.proofs.Common.{◌≡◌, ◌≢◌, [], true≢false, sym, ap, subst, ◌∙◌, is_some, refl}
 use Rattle.std.specs.Prelude.{IsUtf8}
-use Rattle.avp_patterns.specs.Patterns.{IsPattern, IsRefused, Written, expansion_at, expression_of, without_place}
+use Rattle.avp_patterns.specs.Patterns.{IsPattern, IsRefused, Written, expansion_at, without_place}
 use Rattle.avp_patterns.specs.declared.faults.PatternFault.{PatternFault}
 use Rattle.avp_patterns.specs.declared.faults.PatternFault.TheVariants as fault
 

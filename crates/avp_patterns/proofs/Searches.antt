@@ -1,5 +1,5 @@
 -- What a compiled pattern searches for, and what its searches come to.
-use Rattle.std.proofs.Common.{◌≡◌, ℕ, ◌+◌, ◌*◌, ◌≤◌, true, false, cond, true≢false, List, [], ◌∷◌, map, length, get_or, Option, None, Some, IsSomeAnd, w8, Fits, is_some, option_map, refl, sym, ap, ap₂, ◌∙◌, subst, arith, nat_le}
+use Rattle.std.proofs.Common.{◌≡◌, ℕ, ◌+◌, ◌*◌, ◌≤◌, true, false, cond, true≢false, List, [], ◌∷◌, map, length, get_or, Option, None, Some, IsSome, IsSomeAnd, w8, Fits, is_some, option_map, refl, sym, ap, ap₂, ◌∙◌, subst, arith, nat_le}
 use Rattle.std.proofs.lemmas.Bool.Decides.{nat_tests}
 use Rattle.std.proofs.lemmas.Option.{same_Some}
 use Rattle.std.proofs.lemmas.List.Elements.{All-cons, All-nil}
@@ -16,7 +16,7 @@ use Rattle.regex.specs.declared.bytes.captures.Captures.{Captures}
 use Rattle.regex.specs.declared.bytes.regex.Regex.{Regex}
 use Rattle.regex.proofs.ForCallers.{found_alike, is_match_alike, span_alike}
 use Rattle.avp_patterns.specs.Matching.{groups_in, match_in, matches, spans_of}
-use Rattle.avp_patterns.specs.Patterns.{Written, expression_of, options, within}
+use Rattle.avp_patterns.specs.Patterns.{Written, expression_in, expression_of, options, unicode_at, within}
 use Rattle.avp_patterns.specs.declared.flags.PatternFlags.{PatternFlags}
 use Rattle.avp_patterns.specs.internal.Searching.{SearchesFor}
 
@@ -29,10 +29,31 @@ alike_within (Some x) a names p =
     let shallow : nat_le x.0.depth 250 ≡ true = grind (arith, nat_tests) in
     subst (λ b. IsSomeAnd (cond b (Some x.0.value) None) (SameCaptures a)) (sym shallow) p.1
 
+pub searches_in : (r : Regex) (flags : PatternFlags) → regex_config r ≡ options flags → IsReadFromSource r →
+    IsSomeAnd (expression_in (record { text = regex_source r; flags = flags })) (SameCaptures (regex_pattern r))
+unfolding expression_in Reads
+searches_in r flags config read = alike_within _ (regex_pattern r) _ (subst (λ c. Reads c (regex_source r) r.pattern.program.hir (names_of r.pattern.names.items)) config read)
+
+-- a text without a group that sets `u` is read as it stands
+pub as_read : (w : Written) → unicode_at false w.text ≡ None → expression_of w ≡ expression_in w
+unfolding expression_of
+as_read w e = ap (λ (o : Option ℕ). cond (is_some o) None (expression_in w)) e
+
+without : (o : Option ℕ) (read : Option Re) → IsSome (cond (is_some o) None read) → o ≡ None
+without None read p = refl
+without (Some at) read p = absurd (true≢false (sym p))
+
+-- and a pattern is such a text
+pub of_octets : (w : Written) → IsSome (expression_of w) → unicode_at false w.text ≡ None
+unfolding expression_of
+of_octets w p = without (unicode_at false w.text) (expression_in w) p
+
 pub searches_for : (r : Regex) (flags : PatternFlags) → regex_config r ≡ options flags → IsReadFromSource r →
+    IsSome (expression_of (record { text = regex_source r; flags = flags })) →
     SearchesFor (record { text = regex_source r; flags = flags }) (regex_pattern r)
-unfolding expression_of Reads
-searches_for r flags config read = alike_within _ (regex_pattern r) _ (subst (λ c. Reads c (regex_source r) r.pattern.program.hir (names_of r.pattern.names.items)) config read)
+searches_for r flags config read is_read =
+    let w : Written = record { text = regex_source r; flags = flags } in
+    subst (λ o. IsSomeAnd o (SameCaptures (regex_pattern r))) (sym (as_read w (of_octets w is_read))) (searches_in r flags config read)
 
 module _ (hay : List ℕ) (bytes : (k : ℕ) → Fits w8 (get_or hay k 0)) (a : Re) where
   match_over : (o : Option Re) → IsSomeAnd o (SameCaptures a) →

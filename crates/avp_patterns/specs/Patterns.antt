@@ -1,7 +1,7 @@
 -- Which texts are patterns. A server reads patterns by PCRE over octets, without Unicode; this grammar is that of the
 -- crate `regex` of Rust under such options, which reads what the two have in common, and refuses look-around and back
 -- references.
-use Rattle.std.specs.Prelude.{◌≡◌, ◌≢◌, ◌≤◌, ℕ, ◌+◌, nat_eq, nat_le, false, List, [], ◌∷◌, length, Option, Some, None, IsSome, codes, chars, if◌then◌else◌, IsUtf8}
+use Rattle.std.specs.Prelude.{◌≡◌, ◌≢◌, ◌≤◌, ℕ, ◌+◌, nat_eq, nat_le, Bool, ◌&&◌, ◌||◌, true, false, not, List, [], ◌∷◌, length, Option, Some, None, is_some, IsSome, codes, chars, if◌then◌else◌, IsUtf8}
 use Rattle.std.specs.List.{starts_with}
 use Rattle.std.specs.Option.{option_and_then, option_map}
 use Rattle.std.specs.Str.Lossy.{utf8_valid_len}
@@ -38,9 +38,39 @@ options flags = record {
 abbrev pub within : ℕ → Nested Re × Names → Option Re
 within deepest found = if nat_le found.0.depth deepest then Some found.0.value else None
 
--- the regular expression that a pattern stands for, which is nested 250 deep at most
+-- a letter of ASCII or a `-`
+abbrev pub is_flag : ℕ → Bool
+is_flag c = nat_eq c 45 || (nat_le 65 c && nat_le c 90) || (nat_le 97 c && nat_le c 122)
+
+-- whether the flags that some octets begin with have a `u` among them
+abbrev pub has_flag_u : List ℕ → Bool
+has_flag_u [] = false
+has_flag_u (c ∷ cs) = if nat_eq c 117 then true else if is_flag c then has_flag_u cs else false
+
+-- whether octets begin with a group that sets the flag `u`, which turns Unicode on or off; PCRE has no such flag
+abbrev pub sets_unicode : List ℕ → Bool
+sets_unicode [] = false
+sets_unicode (c ∷ []) = false
+sets_unicode (c ∷ d ∷ flags) = nat_eq c 40 && nat_eq d 63 && has_flag_u flags
+
+-- whether an octet escapes the next one
+abbrev pub escapes : Bool → ℕ → Bool
+escapes escaped c = not escaped && nat_eq c 92
+
+-- how many octets are before the first such group, where the first octet is escaped or is not; `\(` begins no group
+abbrev pub unicode_at : Bool → List ℕ → Option ℕ
+unicode_at escaped [] = None
+unicode_at escaped (c ∷ cs) =
+    if not escaped && sets_unicode (c ∷ cs) then Some 0
+    else option_map (λ n. n + 1) (unicode_at (escapes escaped c) cs)
+
+-- the regular expression that the grammar reads in a text, which is nested 250 deep at most
+unfoldable pub expression_in : Written → Option Re
+expression_in w = option_and_then (within 250) (read (options w.flags) (chars w.text))
+
+-- the regular expression that a pattern stands for
 unfoldable pub expression_of : Written → Option Re
-expression_of w = option_and_then (within 250) (read (options w.flags) (chars w.text))
+expression_of w = if is_some (unicode_at false w.text) then None else expression_in w
 
 -- how many octets are before the first `%{`, whether or not a `\` is before it
 abbrev pub expansion_at : List ℕ → Option ℕ

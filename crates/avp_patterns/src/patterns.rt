@@ -1,9 +1,9 @@
 //! Patterns that were read.
 
-ghost use Rattle.std.specs.Prelude.{◌≡◌, ◌≢◌, ◌<◌, ◌≤◌, ◌⊎◌, ◌^◌, false, length, IfErr, IfOk, IsSome, OnOk};
+ghost use Rattle.std.specs.Prelude.{◌≡◌, ◌≢◌, ◌<◌, ◌≤◌, ◌⊎◌, ◌^◌, ◌&&◌, false, not, length, IfErr, IfOk, IfSome, IsSome, OnOk};
 ghost use Rattle.regex.specs.Bytes.{regex_config, regex_source, IsReadFromSource};
 ghost use Rattle.regex.specs.Views.{builder_config, builder_size_limit, builder_source};
-ghost use Rattle.avp_patterns.specs.Patterns.{IsPattern, IsRefused, expansion_at, expression_of, options};
+ghost use Rattle.avp_patterns.specs.Patterns.{IsPattern, IsRefused, expansion_at, expression_in, escapes, expression_of, has_flag_u, is_flag, options, sets_unicode, unicode_at};
 ghost use Rattle.avp_patterns.specs.declared.faults.PatternFault.TheVariants.{Memory, NotRead, TooLarge};
 ghost use Rattle.regex_syntax.specs.declared.error.ErrorKind.TheVariants.{OutOfMemory};
 ghost use Rattle.avp_patterns.specs.declared.flags.PatternFlags.{PatternFlags as ThePatternFlags};
@@ -69,7 +69,68 @@ fn expansion_at(text: &[u8]) -> Option<usize>
     None
 }
 
+fn is_flag(octet: u8) -> bool
+    ensures { result ≡ is_flag octet }
+{
+    octet == b'-' || octet.is_ascii_alphabetic()
+}
+
+fn has_flag_u(flags: &[u8]) -> bool
+    ensures { result ≡ has_flag_u flags.now }
+{
+    let mut rest = flags;
+    while let [octet, after @ ..] = rest {
+        if *octet == b'u' {
+            return true;
+        }
+        if !is_flag(*octet) {
+            return false;
+        }
+        rest = after;
+    }
+    false
+}
+
+fn sets_unicode(text: &[u8]) -> bool
+    ensures { result ≡ sets_unicode text.now }
+{
+    match text {
+        [b'(', b'?', flags @ ..] => has_flag_u(flags),
+        _ => false,
+    }
+}
+
+fn escapes(escaped: bool, octet: u8) -> bool
+    ensures { result ≡ escapes escaped octet }
+{
+    !escaped && octet == b'\\'
+}
+
+// Whether such a group begins here, where the first octet is escaped or is not.
+fn opens(escaped: bool, text: &[u8]) -> bool
+    ensures { result ≡ (not escaped && sets_unicode text.now) }
+{
+    !escaped && sets_unicode(text)
+}
+
+fn unicode_at(text: &[u8]) -> Option<usize>
+    ensures same { result ≡ unicode_at false text.now }
+    ensures inside { IfSome result (λ at. at ≤ length text.now) }
+{
+    let mut rest = text;
+    let mut escaped = false;
+    while let [octet, after @ ..] = rest {
+        if opens(escaped, rest) {
+            return Some(text.len() - rest.len());
+        }
+        escaped = escapes(escaped, *octet);
+        rest = after;
+    }
+    None
+}
+
 // A text of UTF-8, if no more than the grammar may refuse it.
+#[tactic(auto, unfolding(crate::specs::Patterns::expression_of))]
 fn source_of(text: &[u8]) -> Result<&str, PatternFault>
     ensures same { IfOk result (λ source. source.now ≡ text.now) }
     ensures plain { IfOk result (λ _. IsSource text.now) }
@@ -84,9 +145,12 @@ fn source_of(text: &[u8]) -> Result<&str, PatternFault>
         Ok(source) => source,
         Err(error) => return Err(PatternFault::NotUtf8(error.valid_up_to())),
     };
-    match expansion_at(text) {
+    if let Some(offset) = expansion_at(text) {
+        return Err(PatternFault::Expansion(offset));
+    }
+    match unicode_at(text) {
         None => Ok(source),
-        Some(offset) => Err(PatternFault::Expansion(offset)),
+        Some(offset) => Err(PatternFault::NotRead(offset)),
     }
 }
 
@@ -121,7 +185,7 @@ fn fault_of(error: regex_syntax::Error) -> PatternFault
 
 // Whether the grammar reads a text.
 fn parsed(alloc: Global, source: &str, flags: PatternFlags) -> Result<(), PatternFault>
-    ensures read { OnOk result (IsSome (expression_of
+    ensures read { OnOk result (IsSome (expression_in
         (record { text = source.now; flags = flags }))) }
     ensures refused { IfErr result (IsNotCompiled (record { text = source.now; flags = flags })) }
     ensures sure { IfErr result (λ fault. fault ≢ TooLarge) }

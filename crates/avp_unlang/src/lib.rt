@@ -24,9 +24,11 @@ pub use meaning::matching::holds_by;
 pub use meaning::reasons::Reason;
 pub use meaning::resolving::{Unresolved, resolve, resolve_by};
 pub use meaning::truth::holds;
+pub use text::first_tokens::{FirstToken, first_token};
 pub use text::policies::{
     Policy, keeps_reply_clean, one_policy, plain_has_no_patterns, read_policy, refused_once, size,
 };
+pub use text::tokens::{Excerpt, Matcher, Sign, Token};
 pub use tree::{
     Block, Branch, Branches, Comparand, Comparison, Cond, GroupMatching, Line, Lines, Matching,
     MeantComparand, MeantComparison, Part, Parts, Relation, Source, Statement, TextComparison,

@@ -4,6 +4,7 @@ pub mod capture_uses;
 pub mod compiling;
 pub mod conditions;
 pub mod cursors;
+pub mod first_tokens;
 pub mod lines;
 pub mod meanings;
 pub mod parts;

@@ -1,10 +1,10 @@
 //! Dictionaries, what is found in them, and texts.
 
+use attribute_tests::samples::{read_dictionary, test_dictionary};
 use avp_dict::{
     Dictionary, FileSet, Form, Kind, LineFault, LineKind, NamedFile, line_after, quote, read_pairs,
 };
 use avp_lists::{AttrId, Octets};
-use samples::{read_dictionary, test_dictionary};
 use std::alloc::Global;
 use std::process::Abort;
 use std::test::Fail;

@@ -1,12 +1,12 @@
 //! Packets that are read, written and checked.
 
+use attribute_tests::samples::test_dictionary;
 use avp_dict::Dictionary;
 use avp_packet::{
     ACCESS_ACCEPT, ACCESS_REQUEST, BadLength, PacketFault, attributes, check_message, check_reply,
     decode, decode_reply, decode_reply_unchecked, decode_unchecked, encode_reply, encode_request,
     hide, unhide,
 };
-use samples::test_dictionary;
 use std::alloc::Global;
 use std::process::Abort;
 use std::test::Fail;

@@ -1,8 +1,8 @@
 //! Policies that are read.
 
+use attribute_tests::samples::test_dictionary;
 use avp_dict::Dictionary;
 use avp_unlang::{PolicyFault, PolicyKind, read_policy, size};
-use samples::test_dictionary;
 use std::alloc::Global;
 use std::process::Abort;
 use std::test::Fail;

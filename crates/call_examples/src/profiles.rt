@@ -1,12 +1,12 @@
 //! Names, values and request lines of the wider profile.
 
+use attribute_tests::samples::read_dictionary;
 use avp_dict::Dictionary;
 use avp_forms::{
     Profile, printed_pair_name, printed_pair_text, profile_of, read_request, target_of,
     value_written,
 };
 use avp_lists::{AttrId, Octets, Pair, Value};
-use samples::read_dictionary;
 use std::alloc::Global;
 use std::process::Abort;
 use std::test::Fail;

@@ -1,10 +1,10 @@
 //! Runs, forward and back.
 
+use attribute_tests::samples::test_dictionary;
 use avp_dict::Dictionary;
 use avp_lists::{List, SlotStore, Store};
 use avp_step::{Label, Move, Moved, Searches, Stepper, run, run_with};
 use avp_unlang::{Code, read_policy};
-use samples::test_dictionary;
 use std::alloc::Global;
 use std::process::Abort;
 use std::test::Fail;

@@ -1,8 +1,8 @@
 //! Values by a dictionary.
 
+use attribute_tests::samples::test_dictionary;
 use avp_dict::{Dictionary, ValueFault};
 use avp_lists::{AttrId, Pair, Value};
-use samples::test_dictionary;
 use std::alloc::Global;
 use std::process::Abort;
 use std::test::Fail;

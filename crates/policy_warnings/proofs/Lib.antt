@@ -1,12 +1,15 @@
 pub mod Agreeing
 pub mod Answered
+pub mod AnsweredBlocks
 pub mod Blocks
 pub mod GroupedTrees
 pub mod Grouping
 pub mod Layers
+pub mod Looking
 pub mod Negations
 pub mod Passing
 pub mod Repeating
 pub mod Sameness
 pub mod ServerCaptures
 pub mod Sound
+pub mod TokenLines

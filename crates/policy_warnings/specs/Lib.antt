@@ -1,9 +1,11 @@
 pub mod Absences
 pub mod Answers
+pub mod BareNames
 pub mod Counts
 pub mod Groupings
 pub mod Mentions
 pub mod Passages
 pub mod Repeats
+pub mod ServerAttributes
 pub mod ServerEvaluations
 pub mod Warnings

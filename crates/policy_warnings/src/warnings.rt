@@ -29,6 +29,12 @@ pub enum Reason {
     AbsentSource,
     /// A condition that repeats an earlier one of its chain.
     RepeatedCondition,
+    /// A word without `&` and without quotes that a server takes for an attribute.
+    BareName,
+    /// An attribute that a server makes itself.
+    VirtualAttribute,
+    /// A comparison for which a server asks a module.
+    ModuleComparison,
 }
 
 /// A warning, and the line of the text that it is about.

@@ -7,10 +7,10 @@ ghost use Rattle.radpolicy.specs.Plans.{IsSound, asked_by_job, asked_by_plan};
 
 use avp_dict::FileSet;
 use radpolicy::{Fault, Job, Outcome, Plan, WriteOutput, answer, help_text, read_words, status};
-use radpolicy_common::{job_of, refuse_early};
+use radpolicy_common::{Unread, job_of, refuse, refuse_early, refuse_unread};
 use radpolicy_help::{
-    Sources, explain_words, is_help_wanted, refuse_explained, refuse_unread_explained,
-    refuse_with_help, stop_text, warnings_text,
+    Sources, explain, explain_words, is_help_wanted, refuse_with_help, stop_text, tell_unread,
+    warnings_text,
 };
 use std::io;
 use std::process::ExitCode;
@@ -63,6 +63,25 @@ fn tell_more(rt: &HostRuntime, plan: &Plan, job: &Job, outcome: Outcome) {
     warn(rt, &sources);
 }
 
+// Refuses a job. The fault's line has the octets of what it names.
+fn refuse_job(rt: &HostRuntime, plan: &Plan, job: &Job, fault: &Fault) -> u8
+    requires { IsPrintedWith job.now.files fault.now }
+    ensures { result ≡ status_of fault.now }
+{
+    if !is_help_wanted(rt) {
+        return refuse(rt, fault, &job.files);
+    }
+    let help = explain(rt.alloc(), fault, &Sources::of_job(plan, job));
+    refuse_with_help(rt, fault, &job.files, help)
+}
+
+// Refuses files that were not all read. The line has the octets of the path.
+fn refuse_files(rt: &HostRuntime, unread: Unread<'_>) -> u8 {
+    let code = refuse_unread(rt, unread);
+    tell_unread(rt, unread);
+    code
+}
+
 fn run_job(rt: &HostRuntime, plan: &Plan, job: &Job) -> u8
     requires { IsSound (asked_by_job job.now) }
 {
@@ -72,7 +91,7 @@ fn run_job(rt: &HostRuntime, plan: &Plan, job: &Job) -> u8
             tell_more(rt, plan, job, outcome);
             0
         }
-        Err(fault) => refuse_explained(rt, &fault, &job.files, &Sources::of_job(plan, job)),
+        Err(fault) => refuse_job(rt, plan, job, &fault),
     }
 }
 
@@ -81,7 +100,7 @@ fn run_plan(rt: &HostRuntime, plan: &Plan) -> u8
 {
     match job_of(rt, plan) {
         Ok(job) => run_job(rt, plan, &job),
-        Err(unread) => refuse_unread_explained(rt, unread),
+        Err(unread) => refuse_files(rt, unread),
     }
 }
 

@@ -60,6 +60,7 @@ fn unread_fault(unread: Unread) -> ClientFault {
         Unread::Memory => ClientFault::Memory,
         Unread::Missing | Unread::Unreadable => ClientFault::Unreadable,
         Unread::Forbidden => ClientFault::Forbidden,
+        Unread::NotRegular => ClientFault::Configuration(FaultKind::NotRegular),
         Unread::TooLong => ClientFault::Configuration(FaultKind::TooLong),
     }
 }

@@ -16,7 +16,7 @@ use Rattle.hex.proofs.HexLemmas.{IsAscii-encode_with}
 use Rattle.json.proofs.Printed.Utf8.{IsUtf8-quoted}
 use Rattle.radpolicy_common.specs.declared.json_strings.Escaping.{Escaping}
 use Rattle.radpolicy_common.specs.declared.json_strings.Escaping.TheVariants.{ForMarkup, Plain}
-use Rattle.radpolicy_common.specs.JsonStrings.{char_text, is_no_markup, is_no_separator, json_octets, json_string, markup_text}
+use Rattle.radpolicy_common.specs.JsonStrings.{char_text, is_late_control, is_no_markup, is_no_separator, json_octets, json_string, markup_text, short_escape}
 use Rattle.radpolicy_common.proofs.TextsOf.{IsTextOf, text-ascii, text-char, text-flat_map}
 
 -- ---- a text
@@ -57,15 +57,22 @@ by_tests false false false true e o scalar test = literal ForMarkup (codes "\\u2
 by_tests false false false false true o scalar test = literal ForMarkup (codes "\\u2029") refl
 by_tests false false false false false o scalar test = text-char (passing ForMarkup) o scalar test
 
+short_is_ascii : (c : ℕ) → IsAscii (short_escape c)
+short_is_ascii c =
+    IsAscii-append (codes "\\u00") (encode_with lower_digits (c ∷ [])) (are_ascii (codes "\\u00") refl) (IsAscii-encode_with lower_digits (c ∷ []) (are_ascii lower_digits refl))
+
+short_is_text : (escaping : Escaping) (c : ℕ) → IsTextOf (passing escaping) (short_escape c)
+short_is_text escaping c = ascii_is_text escaping (short_escape c) (short_is_ascii c)
+
 char_is_text : (escaping : Escaping) (c : ℕ) → IsScalar c → IsTextOf (passing escaping) (char_text escaping c)
 char_is_text Plain c scalar =
-    elim (c == 127) as (λ b. IsTextOf (passing Plain) (if b then codes "\\u007f" else encode_utf8 c)) [
-      | true ↦ literal Plain (codes "\\u007f") refl
+    elim (is_late_control c) as (λ b. IsTextOf (passing Plain) (if b then short_escape c else encode_utf8 c)) [
+      | true ↦ short_is_text Plain c
       | false ↦ text-char (passing Plain) c scalar refl
     ]
 char_is_text ForMarkup c scalar =
-    elim (c == 127) as (λ b. IsTextOf (passing ForMarkup) (if b then codes "\\u007f" else markup_text c)) [
-      | true ↦ literal ForMarkup (codes "\\u007f") refl
+    elim (is_late_control c) as (λ b. IsTextOf (passing ForMarkup) (if b then short_escape c else markup_text c)) [
+      | true ↦ short_is_text ForMarkup c
       | false ↦ by_tests (c == 60) (c == 62) (c == 38) (c == 0x2028) (c == 0x2029) c scalar refl
     ]
 
@@ -113,15 +120,6 @@ none_by_tests false false false true e o test = refl
 none_by_tests false false false false true o test = refl
 none_by_tests false false false false false o test = char_has_none o test
 
-escaped_has_none : (cs : List ℕ) → list_all is_no_markup (flat_map (char_text ForMarkup) cs) ≡ true
-escaped_has_none [] = refl
-escaped_has_none (c ∷ cs) =
-    let first = elim (c == 127) as (λ b. list_all is_no_markup (if b then codes "\\u007f" else markup_text c) ≡ true) [
-      | true ↦ refl
-      | false ↦ none_by_tests (c == 60) (c == 62) (c == 38) (c == 0x2028) (c == 0x2029) c refl
-    ] in
-    both (char_text ForMarkup c) (flat_map (char_text ForMarkup) cs) first (escaped_has_none cs)
-
 parts : (a b : Bool) → (a && b) ≡ true → (a ≡ true) × (b ≡ true)
 parts true b h = (refl, h)
 parts false b h = cc
@@ -137,6 +135,18 @@ unfolding encode_with
 digits_have_none [] = refl
 digits_have_none (o ∷ os) =
     rw (place_has_none lower_digits refl (o / 16), place_has_none lower_digits refl (o % 16), digits_have_none os)
+
+short_has_none : (c : ℕ) → list_all is_no_markup (short_escape c) ≡ true
+short_has_none c = both (codes "\\u00") (encode_with lower_digits (c ∷ [])) refl (digits_have_none (c ∷ []))
+
+escaped_has_none : (cs : List ℕ) → list_all is_no_markup (flat_map (char_text ForMarkup) cs) ≡ true
+escaped_has_none [] = refl
+escaped_has_none (c ∷ cs) =
+    let first = elim (is_late_control c) as (λ b. list_all is_no_markup (if b then short_escape c else markup_text c) ≡ true) [
+      | true ↦ short_has_none c
+      | false ↦ none_by_tests (c == 60) (c == 62) (c == 38) (c == 0x2028) (c == 0x2029) c refl
+    ] in
+    both (char_text ForMarkup c) (flat_map (char_text ForMarkup) cs) first (escaped_has_none cs)
 
 pub string_has_none : (escaping : Escaping) (text : List ℕ) → escaping ≡ ForMarkup → list_all is_no_markup (json_string escaping text) ≡ true
 unfolding json_string

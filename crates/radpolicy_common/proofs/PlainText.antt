@@ -1,5 +1,5 @@
 -- Plain octets are shown as they are.
-use Rattle.std.proofs.Common.{◌≡◌, ℕ, ◌<◌, true, nat_lt, List, [], ◌∷◌, ◌++◌, IsUtf8, subst, arith}
+use Rattle.std.proofs.Common.{◌≡◌, ◌∙◌, ℕ, ◌<◌, true, nat_lt, List, [], ◌∷◌, ◌++◌, IsUtf8, subst, sym, arith}
 use Rattle.std.proofs.lemmas.Bool.{and_parts}
 use Rattle.std.proofs.lemmas.Bool.Decides.{nat_tests}
 use Rattle.std.proofs.lemmas.List.Elements.{All-cons, All-nil}
@@ -7,10 +7,11 @@ use Rattle.std.proofs.lemmas.Str.{encode_ascii}
 use Rattle.std.specs.Char.{IsScalar, encode_utf8}
 use Rattle.std.specs.List.{list_all}
 use Rattle.radpolicy_common.specs.declared.terminals.LineBreaks.{LineBreaks}
-use Rattle.radpolicy_common.specs.VisibleText.{IsVisibleText, all_visible, char_shown, is_visible, text_shown}
+use Rattle.radpolicy_common.specs.VisibleText.{IsVisibleText, all_visible, char_shown, is_visible, text_shown, visible_text}
 use Rattle.radpolicy_common.specs.VisibleText.IsVisibleText.{nothing, character}
 use Rattle.radpolicy_common.specs.internal.PlainText.{is_plain}
 use Rattle.radpolicy_common.proofs.Visibility.{Small, shown_is_text, text_is_shown}
+use Rattle.radpolicy_common.proofs.VisibleParts.{text_is_visible}
 
 below : (o : ℕ) → nat_lt o 128 ≡ true → o < 128
 below o e = grind (arith, nat_tests)
@@ -45,3 +46,6 @@ plain_is_visible breaks octets plain = (shown_is_text breaks octets octets (plai
 
 pub plain_is_text : (breaks : LineBreaks) (octets : List ℕ) → list_all (is_plain breaks) octets ≡ true → octets ≡ text_shown breaks octets
 plain_is_text breaks octets plain = text_is_shown breaks octets octets (plain_is_shown breaks octets plain) (plain_is_utf8 breaks octets plain)
+
+pub plain_is_parts : (breaks : LineBreaks) (octets : List ℕ) → list_all (is_plain breaks) octets ≡ true → octets ≡ visible_text breaks octets
+plain_is_parts breaks octets plain = plain_is_text breaks octets plain ∙ sym (text_is_visible breaks octets (plain_is_utf8 breaks octets plain))

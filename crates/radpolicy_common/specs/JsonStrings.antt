@@ -1,6 +1,7 @@
 -- JSON strings (RFC 8259, section 7).
-use Rattle.std.specs.Prelude.{ℕ, Bool, not, ◌||◌, ◌==◌, if◌then◌else◌, List, ◌++◌, codes}
+use Rattle.std.specs.Prelude.{ℕ, Bool, not, ◌||◌, ◌==◌, if◌then◌else◌, List, [], ◌∷◌, ◌++◌, codes}
 use Rattle.std.specs.Char.{encode_utf8}
+use Rattle.std.specs.Int.{is_in_range}
 use Rattle.std.specs.List.{flat_map}
 use Rattle.std.specs.Str.{chars}
 use Rattle.json.specs.Print.{quoted}
@@ -24,10 +25,18 @@ markup_text c = if c == 60 then codes "\\u003c" else if c == 62 then codes "\\u0
     else if c == 38 then codes "\\u0026" else if c == 0x2028 then codes "\\u2028"
     else if c == 0x2029 then codes "\\u2029" else encode_utf8 c
 
--- a character: DEL as an escape, and for markup those
+-- a control character that JSON takes as it is: DEL, and from U+0080 to U+009F
+abbrev pub is_late_control : ℕ → Bool
+is_late_control c = is_in_range 0x7F 0x9F c
+
+-- \u00 and two hexadecimal digits
+abbrev pub short_escape : ℕ → List ℕ
+short_escape c = codes "\\u00" ++ encode_lower (c ∷ [])
+
+-- a character: such a control character as an escape, and for markup those
 abbrev pub char_text : Escaping → ℕ → List ℕ
-char_text Plain c = if c == 127 then codes "\\u007f" else encode_utf8 c
-char_text ForMarkup c = if c == 127 then codes "\\u007f" else markup_text c
+char_text Plain c = if is_late_control c then short_escape c else encode_utf8 c
+char_text ForMarkup c = if is_late_control c then short_escape c else markup_text c
 
 -- each character of a text with these escapes
 abbrev pub with_escapes : Escaping → List ℕ → List ℕ

@@ -2,8 +2,16 @@ pub mod ChangeTexts
 pub mod Changes
 pub mod Inputs
 pub mod JsonStrings
+pub mod Marks
+pub mod OutputFaults
+pub mod OutputPaths
+pub mod Pieces
+pub mod PolicyTexts
+pub mod ProxyStates
 pub mod Refusals
 pub mod SecretAttributes
+pub mod SecretWords
+pub mod Secrets
 pub mod Unread
 pub mod VisibleText
 pub mod Words

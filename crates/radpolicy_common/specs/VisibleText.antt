@@ -1,8 +1,9 @@
 -- What is shown of octets on a terminal.
-use Rattle.std.specs.Prelude.{ℕ, Bool, false, not, ◌||◌, ◌==◌, if◌then◌else◌, List, [], ◌∷◌, ◌++◌}
+use Rattle.std.specs.Prelude.{ℕ, zero, suc, Bool, false, not, ◌||◌, ◌==◌, if◌then◌else◌, List, [], ◌∷◌, ◌++◌, drop, length, take}
 use Rattle.std.specs.List.{flat_map, list_all}
 use Rattle.std.specs.Char.{IsScalar, encode_utf8, is_control}
 use Rattle.std.specs.Str.{StartsWithNoChar, chars}
+use Rattle.std.specs.Str.Lossy.{after_first_chunk, utf8_invalid_len, utf8_valid_len}
 use Rattle.avp_dict.specs.Quotes.{octal_escape}
 use Rattle.radpolicy_common.specs.declared.terminals.LineBreaks.{LineBreaks}
 use Rattle.radpolicy_common.specs.declared.terminals.LineBreaks.TheVariants.{Escaped, Kept}
@@ -47,3 +48,21 @@ pub data IsVisibleText (breaks : LineBreaks) : List ℕ → List ℕ → Type 0 
   octet : (o : ℕ) (octets text : List ℕ) → StartsWithNoChar (o ∷ octets)
       → IsVisibleText breaks octets text
       → IsVisibleText breaks (o ∷ octets) (octal_escape o ++ text)
+
+-- the longest text at the front, and the octets after it with which no character begins
+abbrev pub text_at_front : List ℕ → List ℕ
+text_at_front octets = take (utf8_valid_len octets) octets
+
+abbrev pub octets_after_text : List ℕ → List ℕ
+octets_after_text octets = take (utf8_invalid_len (drop (utf8_valid_len octets) octets)) (drop (utf8_valid_len octets) octets)
+
+-- of at most so many such parts
+abbrev pub visible_within : LineBreaks → ℕ → List ℕ → List ℕ
+visible_within breaks zero octets = []
+visible_within breaks (suc parts) [] = []
+visible_within breaks (suc parts) (o ∷ os) = text_shown breaks (text_at_front (o ∷ os))
+    ++ (octal_text (octets_after_text (o ∷ os)) ++ visible_within breaks parts (after_first_chunk (o ∷ os)))
+
+-- the same, which there is one of
+unfoldable pub visible_text : LineBreaks → List ℕ → List ℕ
+visible_text breaks octets = visible_within breaks (length octets) octets

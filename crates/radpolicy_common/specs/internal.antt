@@ -1,3 +1,6 @@
+pub mod Elements
 pub mod Middles
 pub mod NextKept
 pub mod PlainText
+pub mod PolicyLines
+pub mod SecretIds

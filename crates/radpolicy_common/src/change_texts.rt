@@ -1,142 +1,90 @@
 //! The change from one list of pairs to the next, as lines.
 
 ghost use Rattle.std.specs.Prelude.{◌≡◌, ◌++◌, IfOk, OnOk, All, codes};
-ghost use Rattle.radpolicy_common.specs.ChangeTexts.{AllFit, Fits, FitsIn, change_line, change_text, pair_text, shown_text};
+ghost use Rattle.radpolicy_common.specs.ChangeTexts.{AllFit, Fits, FitsIn, change_line, change_text, pair_line};
 ghost use Rattle.radpolicy_common.specs.Changes.{after_of, before_of};
 
 use crate::change_lists::Change;
-use crate::secret_attributes::is_secret;
-use avp_dict::Dictionary;
-use avp_forms::{Profile, printed_pair_name, printed_pair_text};
+use crate::redactions::Redaction;
 use avp_lists::Pair;
 use std::alloc::{AllocError, Global};
 
-/// What is shown of secret values.
-#[derive(Clone, Copy, Debug, PartialEq, Eq)]
-pub enum SecretValues {
-    /// `(hidden)` in their place.
-    Hidden,
-    Shown,
-}
-
-// The text of a value, or `(hidden)`.
-fn shown_text(
+/// A pair as [`Redaction::pair_text`] shows it, with a line feed.
+pub fn pair_line(
     alloc: Global,
-    dictionary: &Dictionary,
-    secrets: SecretValues,
+    redaction: &Redaction<'_>,
     pair: &Pair,
 ) -> Result<Vec<u8>, AllocError>
-    requires { Fits dictionary.now pair.now }
-    ensures { IfOk result (λ text. text.items ≡ shown_text dictionary.now secrets pair.now) }
+    requires { Fits redaction.now.dictionary pair.now }
+    ensures { IfOk result (λ text. text.items ≡ pair_line redaction.now pair.now) }
 {
-    match secrets {
-        SecretValues::Hidden if is_secret(dictionary, pair.id, &pair.value) => {
-            Vec::from_slice(alloc, b"(hidden)")
-        }
-        _ => printed_pair_text(alloc, dictionary, Profile::Wider, pair.id, &pair.value),
-    }
-}
-
-// A pair as `Name = value`, with its line feed.
-fn push_pair(
-    text: &mut Vec<u8>,
-    dictionary: &Dictionary,
-    secrets: SecretValues,
-    pair: &Pair,
-) -> Result<(), AllocError>
-    requires { Fits dictionary.now pair.now }
-    ensures { OnOk result
-        (text.new.items ≡ text.old.items ++ pair_text dictionary.now secrets pair.now) }
-{
-    let alloc = *text.allocator();
-    let name = printed_pair_name(alloc, dictionary, Profile::Wider, pair.id, &pair.value)?;
-    let value = shown_text(alloc, dictionary, secrets, pair)?;
-    text.extend_from_slice(name.as_slice())?;
-    text.extend_from_slice(b" = ")?;
-    text.extend_from_slice(value.as_slice())?;
+    let mut text = redaction.pair_text(alloc, pair)?;
     text.extend_from_slice(b"\n")?;
-    Ok(())
-}
-
-/// A pair as `Name = value`, with its line feed. Both are printed in the forms of the wider profile.
-pub fn pair_text(
-    alloc: Global,
-    dictionary: &Dictionary,
-    secrets: SecretValues,
-    pair: &Pair,
-) -> Result<Vec<u8>, AllocError>
-    requires { Fits dictionary.now pair.now }
-    ensures { IfOk result (λ text. text.items ≡ pair_text dictionary.now secrets pair.now) }
-{
-    let mut text = Vec::new(alloc);
-    push_pair(&mut text, dictionary, secrets, pair)?;
     Ok(text)
 }
 
 // A sign, and a pair.
 fn push_signed(
     text: &mut Vec<u8>,
-    dictionary: &Dictionary,
+    redaction: &Redaction<'_>,
     sign: &[u8],
     pair: &Pair,
-    secrets: SecretValues,
 ) -> Result<(), AllocError>
-    requires { Fits dictionary.now pair.now }
+    requires { Fits redaction.now.dictionary pair.now }
     ensures { OnOk result
-        (text.new.items ≡ text.old.items ++ sign.now ++ pair_text dictionary.now secrets pair.now) }
+        (text.new.items ≡ text.old.items ++ sign.now ++ pair_line redaction.now pair.now) }
 {
+    let line = pair_line(*text.allocator(), redaction, pair)?;
     text.extend_from_slice(sign)?;
-    push_pair(text, dictionary, secrets, pair)
+    text.extend_from_slice(&line)
 }
 
 // The line of a change.
 fn push_change(
     text: &mut Vec<u8>,
-    dictionary: &Dictionary,
+    redaction: &Redaction<'_>,
     change: &Change<'_>,
-    secrets: SecretValues,
 ) -> Result<(), AllocError>
-    requires { FitsIn dictionary.now change.now }
+    requires { FitsIn redaction.now.dictionary change.now }
     ensures { OnOk result
-        (text.new.items ≡ text.old.items ++ change_line dictionary.now secrets change.now) }
+        (text.new.items ≡ text.old.items ++ change_line redaction.now change.now) }
 {
     match change {
         Change::Kept(_) => Ok(()),
-        Change::Removed(pair) => push_signed(text, dictionary, b"- ", pair, secrets),
-        Change::Added(pair) => push_signed(text, dictionary, b"+ ", pair, secrets),
+        Change::Removed(pair) => push_signed(text, redaction, b"- ", pair),
+        Change::Added(pair) => push_signed(text, redaction, b"+ ", pair),
     }
 }
 
 // The lines of the changes.
 fn push_changes(
     text: &mut Vec<u8>,
-    dictionary: &Dictionary,
+    redaction: &Redaction<'_>,
     changes: &[Change<'_>],
-    secrets: SecretValues,
 ) -> Result<(), AllocError>
-    requires { All (FitsIn dictionary.now) changes.now }
+    requires { All (FitsIn redaction.now.dictionary) changes.now }
     ensures { OnOk result
-        (text.new.items ≡ text.old.items ++ change_text dictionary.now secrets changes.now) }
+        (text.new.items ≡ text.old.items ++ change_text redaction.now changes.now) }
 {
     for change in changes {
-        push_change(text, dictionary, change, secrets)?;
+        push_change(text, redaction, change)?;
     }
     Ok(())
 }
 
 /// The lines `- Name = value` of what is removed and `+ Name = value` of what is added, in the order of the changes,
-/// each with a line feed. Names and values are printed in the forms of the wider profile. What is kept has no line.
+/// each with a line feed. Names and values are printed in the forms of the wider profile, hidden ones as `(hidden)`.
+/// What is kept has no line.
 pub fn change_lines(
     alloc: Global,
-    dictionary: &Dictionary,
+    redaction: &Redaction<'_>,
     changes: &[Change<'_>],
-    secrets: SecretValues,
 ) -> Result<Vec<u8>, AllocError>
-    requires before { AllFit dictionary.now (before_of changes.now) }
-    requires after { AllFit dictionary.now (after_of changes.now) }
-    ensures { IfOk result (λ text. text.items ≡ change_text dictionary.now secrets changes.now) }
+    requires before { AllFit redaction.now.dictionary (before_of changes.now) }
+    requires after { AllFit redaction.now.dictionary (after_of changes.now) }
+    ensures { IfOk result (λ text. text.items ≡ change_text redaction.now changes.now) }
 {
     let mut text = Vec::new(alloc);
-    push_changes(&mut text, dictionary, changes, secrets)?;
+    push_changes(&mut text, redaction, changes)?;
     Ok(text)
 }

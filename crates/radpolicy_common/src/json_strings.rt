@@ -6,12 +6,12 @@ ghost use Rattle.std.specs.Str.{IsUtf8, chars};
 ghost use Rattle.std.specs.String.{string_bytes};
 ghost use Rattle.json.specs.Print.{quoted};
 ghost use Rattle.radpolicy_common.specs.declared.json_strings.Escaping.TheVariants.{ForMarkup};
-ghost use Rattle.radpolicy_common.specs.JsonStrings.{char_text, is_no_markup, is_no_separator, json_octets, json_string, with_escapes};
+ghost use Rattle.radpolicy_common.specs.JsonStrings.{char_text, is_no_markup, is_no_separator, json_octets, json_string, short_escape, with_escapes};
 
 use serde_json::Value;
 use std::alloc::{AllocError, Global};
 
-/// What is escaped in a string besides what JSON asks for and DEL.
+/// What is escaped in a string besides what JSON asks for and the control characters from U+007F to U+009F.
 #[derive(Clone, Copy, Debug, PartialEq, Eq)]
 pub enum Escaping {
     Plain,
@@ -26,11 +26,20 @@ fn quoted(alloc: Global, text: &str) -> Result<String, AllocError>
     Value::String(String::from_str(alloc, text)?).to_string(alloc)
 }
 
+// `\u00` and the two digits of an octet.
+fn push_short_escape(text: &mut Vec<u8>, octet: u8) -> Result<(), AllocError>
+    ensures { OnOk result (text.new.items ≡ text.old.items ++ short_escape octet) }
+{
+    let digits = hex::encode(*text.allocator(), [octet])?;
+    text.extend_from_slice(b"\\u00")?;
+    text.extend_from_slice(digits.as_bytes())
+}
+
 fn push_character(text: &mut Vec<u8>, character: char, escaping: Escaping) -> Result<(), AllocError>
     ensures { OnOk result (text.new.items ≡ text.old.items ++ char_text escaping character) }
 {
     match (character, escaping) {
-        ('\u{7f}', _) => text.extend_from_slice(b"\\u007f"),
+        ('\u{7f}'..='\u{9f}', _) => push_short_escape(text, character as u8),
         ('<', Escaping::ForMarkup) => text.extend_from_slice(b"\\u003c"),
         ('>', Escaping::ForMarkup) => text.extend_from_slice(b"\\u003e"),
         ('&', Escaping::ForMarkup) => text.extend_from_slice(b"\\u0026"),
@@ -73,8 +82,8 @@ fn push_string(text: &mut Vec<u8>, string: &str, escaping: Escaping) -> Result<(
 
 /// Adds octets as JSON: UTF-8 as a string, other octets as the object `{"octets":"00ff"}` of their hexadecimal digits.
 ///
-/// In a string `"`, `\`, what is below 0x20 and 0x7f are escaped, and what the escaping says; other characters are as
-/// they are.
+/// In a string `"`, `\` and control characters (up to U+001F, and from U+007F to U+009F) are escaped, and what the escaping
+/// says; other characters are as they are.
 pub fn push_json_string(
     text: &mut Vec<u8>,
     octets: &[u8],

@@ -1,50 +1,126 @@
-//! Attributes whose values are secret.
+//! Attributes and values that are secret.
 
-ghost use Rattle.std.specs.Prelude.{◌≡◌};
-ghost use Rattle.std.specs.List.{list_any};
+ghost use Rattle.std.specs.Prelude.{◌≡◌, ◌<◌, ◌++◌, ◌∷◌, ℕ, List, [], false, length, IfNone, IfOk, IfSome, OnOk};
+ghost use Rattle.std.specs.List.{list_any, position, slice_split};
+ghost use Rattle.std.specs.Option.{option_copied};
 ghost use Rattle.std.specs.Str.{str_eq_ignore_ascii_case};
 ghost use Rattle.avp_lists.specs.Pairs.{id_eq};
-ghost use Rattle.radpolicy_common.specs.SecretAttributes.{begins_with_secret_vendor, ends_in, holds_secret_vendor, is_named_secret, is_of_vendor, is_secret, is_secret_id, is_secret_name, is_secret_vendor, is_unsplit_secret};
+ghost use Rattle.radpolicy_common.specs.SecretAttributes.{behind_colons, ends_in, ends_in_one_of, ends_in_words, ends_in_words_of, ends_no_word, has_secret_word, holds_secret_text, is_equals_sign, is_no_letter, is_secret, is_secret_attribute, is_secret_id, is_secret_key, is_secret_name, is_secret_text, is_secret_word, is_unsplit, is_untold, without_blanks_behind};
+ghost use Rattle.radpolicy_common.specs.internal.SecretIds.{AreFoundIn, is_secret_alone};
 
-use avp_dict::Dictionary;
+use avp_dict::{Dictionary, Entry, Form, Kind, Named, ValueFault, is_container};
 use avp_lists::{AttrId, Value};
+use std::alloc::{AllocError, Global};
+use std::marker::Model;
 
-/// How names end whose attributes are secret.
-pub const SECRET_ENDINGS: [&str; 3] = ["Passphrase", "Password", "Secret"];
+/// How words of names end that speak of secrets: a word is a run of letters.
+pub const SECRET_WORDS: [&str; 13] = [
+    "Credential",
+    "Credentials",
+    "Key",
+    "Keys",
+    "MSK",
+    "Passphrase",
+    "Passwd",
+    "Password",
+    "Passwords",
+    "PMK",
+    "PSK",
+    "Secret",
+    "Secrets",
+];
 
-/// Other names of attributes that are secret, of those that FreeRADIUS's dictionaries do not mark as secret.
+/// The last words of other names whose values are secret.
 ///
 /// What answers or asks for a proof of a password (CHAP, MS-CHAP, Digest, ARAP), from which it can be guessed; and
-/// keys.
-pub const SECRET_NAMES: [&str; 28] = [
-    "ARAP-Challenge-Response",
-    "Ascend-Session-Svr-Key",
-    "Ascend-User-Acct-Key",
+/// passwords, codes and keys under other words.
+pub const SECRET_ENDINGS: [&str; 38] = [
+    "AKA-Quintet",
+    "Auth-Code",
+    "Authentication-String",
+    "Authorization-Code",
+    "Challenge-Response",
     "CHAP-Challenge",
+    "CHAP-Response",
+    "CHAP2-Response",
+    "CHAP2-Success",
+    "Community",
+    "CPW",
+    "CPW-1",
+    "CPW-2",
     "Digest-HA1",
     "Digest-Response",
     "Digest-Response-Auth",
-    "EAP-EMSK",
-    "EAP-MSK",
-    "EAP-Pwd-Password-Hash",
-    "EAP-Sim-KC1",
-    "EAP-Sim-KC2",
-    "EAP-Sim-KC3",
-    "EAP-Sim-KEY",
-    "EAP-Sim-Ki",
-    "MS-CHAP-CPW-1",
-    "MS-CHAP-CPW-2",
-    "MS-CHAP-Challenge",
-    "MS-CHAP-LM-Enc-PW",
-    "MS-CHAP-NT-Enc-PW",
-    "MS-CHAP-Peer-Challenge",
-    "MS-CHAP-Response",
-    "MS-CHAP2-CPW",
-    "MS-CHAP2-Response",
-    "MS-CHAP2-Success",
-    "PKM-Auth-Key",
-    "Password-With-Header",
-    "TOTP-Key",
+    "Eds-Cookie",
+    "KASME",
+    "Login-Command",
+    "Login-String",
+    "OTP",
+    "Pass",
+    "Peer-Challenge",
+    "PIN",
+    "Private-ID",
+    "PW",
+    "Pwd",
+    "Sim-KC1",
+    "Sim-KC2",
+    "Sim-KC3",
+    "Sim-Ki",
+    "Sim-OPc",
+    "Sim-SRES1",
+    "Sim-SRES2",
+    "Sim-SRES3",
+    "SNMPCommunityString-Parameter",
+    "Token",
+    "XRES",
+];
+
+/// The last words of names that speak of a secret, and whose values are none.
+pub const PLAIN_ENDINGS: [&str; 44] = [
+    "Access-Community",
+    "Bak-Key",
+    "Break-Key",
+    "Charging-Vector-Key",
+    "Configuration-Token",
+    "Expiry",
+    "ExpiryDate",
+    "Fwd-Key",
+    "Identifier",
+    "Identity",
+    "Index",
+    "Key-File",
+    "Key-Id",
+    "Key-Name",
+    "Key-Requested",
+    "Key-Type",
+    "Key-Usage-OID",
+    "Length",
+    "Length-G",
+    "Lifetime",
+    "Load-Balance-Key",
+    "Location-Key",
+    "Map-Key",
+    "Only-Passwords",
+    "Only-Passwords-G",
+    "Passwd-Store",
+    "Passwd-Store-G/U",
+    "Password-Prep",
+    "Prompt",
+    "Public-ID",
+    "Public-Key",
+    "Public-Key-Hash",
+    "Realm-Key",
+    "Rekey",
+    "Rekey-Method",
+    "Rekey-Time",
+    "Retry",
+    "Secret-Request",
+    "Timeout",
+    "Usage",
+    "WarnPeriod",
+    "Yubikey-Counter",
+    "Yubikey-Random",
+    "Yubikey-Timestamp",
 ];
 
 /// Attributes that are secret whatever the dictionary names them: User-Password, CHAP-Password, CHAP-Challenge,
@@ -76,18 +152,19 @@ pub const SECRET_IDS: [AttrId; 24] = [
     AttrId::Vendor(4846, 215),
 ];
 
+// ---- the words of a name
+
+fn is_no_letter(octet: u8) -> bool
+    ensures { result ≡ is_no_letter octet }
+{
+    !octet.is_ascii_alphabetic()
+}
+
 // Whether two names are the same, in either case.
 fn is_same(a: &[u8], b: &[u8]) -> bool
     ensures { result ≡ str_eq_ignore_ascii_case a.now b.now }
 {
     a.eq_ignore_ascii_case(b)
-}
-
-fn is_one_of(names: &[&str], name: &[u8]) -> bool
-    ensures { result
-        ≡ list_any (λ own. str_eq_ignore_ascii_case own.now name.now) names.now }
-{
-    names.iter().any(|own| is_same(own.as_bytes(), name))
 }
 
 fn ends_in(name: &[u8], ending: &[u8]) -> bool
@@ -104,17 +181,62 @@ fn ends_in_one_of(endings: &[&str], name: &[u8]) -> bool
         .any(|ending| ends_in(name, ending.as_bytes()))
 }
 
-#[tactic(auto, unfolding(crate::specs::SecretAttributes::is_secret_name, crate::specs::SecretAttributes::secret_endings, crate::specs::SecretAttributes::secret_names))]
-fn is_secret_name(name: &[u8]) -> bool
-    ensures { result ≡ is_secret_name name.now }
+fn ends_no_word(before: &[u8]) -> bool
+    ensures { result ≡ ends_no_word before.now }
 {
-    ends_in_one_of(&SECRET_ENDINGS, name) || is_one_of(&SECRET_NAMES, name)
+    match before.last() {
+        Some(octet) => is_no_letter(*octet),
+        None => true,
+    }
 }
 
-fn has_id(ids: &[AttrId], id: AttrId) -> bool
+fn ends_in_words(name: &[u8], ending: &[u8]) -> bool
+    ensures { result ≡ ends_in_words name.now ending.now }
+{
+    ends_in(name, ending) && ends_no_word(&name[..name.len().saturating_sub(ending.len())])
+}
+
+fn ends_in_words_of(endings: &[&str], name: &[u8]) -> bool
+    ensures { result ≡ list_any (λ ending. ends_in_words name.now ending.now) endings.now }
+{
+    endings
+        .iter()
+        .any(|ending| ends_in_words(name, ending.as_bytes()))
+}
+
+// ---- by name
+
+#[tactic(auto, unfolding(crate::specs::SecretAttributes::secret_words))]
+fn is_secret_word(word: &[u8]) -> bool
+    ensures { result ≡ is_secret_word word.now }
+{
+    ends_in_one_of(&SECRET_WORDS, word)
+}
+
+fn has_secret_word(name: &[u8]) -> bool
+    ensures { result ≡ has_secret_word name.now }
+{
+    name.split(|octet| is_no_letter(*octet))
+        .any(|word| is_secret_word(word))
+}
+
+/// Whether a name is one of a secret attribute, in either case: its last words are one of the [`SECRET_ENDINGS`], or a
+/// word of it ends in one of the [`SECRET_WORDS`]; unless its last words are one of the [`PLAIN_ENDINGS`].
+#[tactic(auto, unfolding(crate::specs::SecretAttributes::is_secret_name, crate::specs::SecretAttributes::secret_endings, crate::specs::SecretAttributes::plain_endings))]
+pub fn is_secret_name(name: &[u8]) -> bool
+    ensures { result ≡ is_secret_name name.now }
+{
+    (ends_in_words_of(&SECRET_ENDINGS, name) || has_secret_word(name))
+        && !ends_in_words_of(&PLAIN_ENDINGS, name)
+}
+
+// ---- by number
+
+/// Whether an attribute is one of these.
+pub(crate) fn has_id(ids: &[AttrId], id: AttrId) -> bool
     ensures { result ≡ list_any (id_eq id) ids.now }
 {
-    ids.iter().any(|secret| id.equals(*secret))
+    ids.iter().any(|own| id.equals(*own))
 }
 
 #[tactic(auto, unfolding(crate::specs::SecretAttributes::is_secret_id))]
@@ -124,75 +246,207 @@ fn is_secret_id(id: AttrId) -> bool
     has_id(&SECRET_IDS, id)
 }
 
-fn is_of_vendor(vendor: u32, id: AttrId) -> bool
-    ensures { result ≡ is_of_vendor vendor id }
+fn is_unsplit(id: AttrId) -> bool
+    ensures { result ≡ is_unsplit id }
 {
     match id {
-        AttrId::Vendor(own, _) => own == vendor,
-        AttrId::Plain(_) | AttrId::Extended(_, _) => false,
+        AttrId::Extended(_, number) => number == 26,
+        AttrId::Plain(_) | AttrId::Vendor(_, _) => is_container(id),
     }
 }
 
-fn has_vendor(ids: &[AttrId], vendor: u32) -> bool
-    ensures { result ≡ list_any (is_of_vendor vendor) ids.now }
+// ---- by text
+
+fn equals_sign_in(text: &[u8]) -> Option<usize>
+    ensures at { result ≡ position is_equals_sign text.now }
+    ensures within { IfSome result (λ at. at < length text.now) }
 {
-    ids.iter().any(|id| is_of_vendor(vendor, *id))
+    text.iter().position(|octet| *octet == b'=')
 }
 
-#[tactic(auto, unfolding(crate::specs::SecretAttributes::is_secret_vendor))]
-fn is_secret_vendor(vendor: u32) -> bool
-    ensures { result ≡ is_secret_vendor vendor }
+fn behind_colons(text: &[u8]) -> Option<&[u8]>
+    ensures { option_copied result ≡ behind_colons text.now }
 {
-    has_vendor(&SECRET_IDS, vendor)
+    text.split(|octet| *octet == b':').last()
 }
 
-fn begins_with_secret_vendor(octets: &[u8]) -> bool
-    ensures { result ≡ begins_with_secret_vendor octets.now }
+#[tactic(auto, using(crate::proofs::SecretTexts::trimmed))]
+fn without_blanks_behind(text: &[u8]) -> &[u8]
+    ensures { result.now ≡ without_blanks_behind text.now }
 {
-    match octets {
-        [a, b, c, d, ..] => is_secret_vendor(u32::from_be_bytes([*a, *b, *c, *d])),
-        _ => false,
-    }
+    text.trim_ascii_end()
 }
 
-fn holds_secret_vendor(value: &Value) -> bool
-    ensures { result ≡ holds_secret_vendor value.now }
+fn is_secret_key(part: &[u8]) -> bool
+    ensures { result ≡ is_secret_key part.now }
 {
-    match value {
-        Value::Raw(octets) | Value::Bytes(octets) => begins_with_secret_vendor(octets.as_slice()),
-        _ => false,
-    }
-}
-
-// Whether it is a Vendor-Specific attribute, of a vendor with secret ones, that was not split into its parts.
-fn is_unsplit_secret(id: AttrId, value: &Value) -> bool
-    ensures { result ≡ is_unsplit_secret id value.now }
-{
-    match id {
-        AttrId::Plain(26) => holds_secret_vendor(value),
-        _ => false,
-    }
-}
-
-fn is_named_secret(dictionary: &Dictionary, id: AttrId) -> bool
-    ensures { result ≡ is_named_secret id dictionary.now }
-{
-    match dictionary.by_id(id) {
-        Some(entry) => is_secret_name(entry.name),
+    match behind_colons(part) {
+        Some(key) => is_secret_name(without_blanks_behind(key)),
         None => false,
     }
 }
 
-/// Whether an attribute's value is not to be shown. By mark: a line of the dictionary has `encrypt=1`, `encrypt=2`,
-/// `encrypt=3` or `secret` ([`is_marked_secret`](Dictionary::is_marked_secret)). By name, in either case: one of the
-/// [`SECRET_ENDINGS`] or [`SECRET_NAMES`], marked or not. By number: one of the [`SECRET_IDS`], whatever its name, and
-/// an attribute 26 of a vendor of theirs that was not split.
-#[tactic(auto, unfolding(crate::specs::SecretAttributes::is_secret))]
-pub fn is_secret(dictionary: &Dictionary, id: AttrId, value: &Value) -> bool
-    ensures { result ≡ is_secret id value.now dictionary.now }
+// What is before the first `=`, and after it.
+fn cut_at_sign(text: &[u8]) -> Option<(&[u8], &[u8])>
+    ensures cut { IfSome result (λ x. slice_split is_equals_sign text.now
+        ≡ x.0.now ∷ slice_split is_equals_sign x.1.now) }
+    ensures whole { IfNone result (slice_split is_equals_sign text.now ≡ text.now ∷ []) }
+{
+    let at = equals_sign_in(text)?;
+    Some((&text[..at], &text[at + 1..]))
+}
+
+/// Whether a text is `key=value`, or has several such pairs, and one of the keys is a secret name ([`is_secret_name`]): a
+/// key is what is before a `=`, from the `=` or `:` before it on.
+#[tactic(auto, using(crate::proofs::SecretTexts::key_here, crate::proofs::SecretTexts::key_behind, crate::proofs::SecretTexts::no_key))]
+pub fn is_secret_text(text: &[u8]) -> bool
+    ensures { result ≡ is_secret_text text.now }
+{
+    let mut rest = text;
+    while let Some((part, behind)) = cut_at_sign(rest) {
+        if is_secret_key(part) {
+            return true;
+        }
+        rest = behind;
+    }
+    false
+}
+
+fn holds_secret_text(value: &Value) -> bool
+    ensures { result ≡ holds_secret_text value.now }
+{
+    match value {
+        Value::Text(octets) | Value::Bytes(octets) | Value::Raw(octets) => {
+            is_secret_text(octets.as_slice())
+        }
+        Value::Int(_) | Value::Signed(_) | Value::Addr(_) | Value::Ether(_) => false,
+    }
+}
+
+// ---- by the dictionary
+
+// Whether an attribute is secret, its names aside.
+fn is_secret_alone(dictionary: &Dictionary, id: AttrId) -> bool
+    ensures { result ≡ is_secret_alone id dictionary.now }
 {
     is_secret_id(id)
-        || is_unsplit_secret(id, value)
+        || is_unsplit(id)
+        || dictionary.by_id(id).is_none()
         || dictionary.is_marked_secret(id)
-        || is_named_secret(dictionary, id)
+}
+
+// Whether an attribute has octets of a type word that stands for none of the types. A dictionary does not tell its type
+// words, but one of these alone takes no text.
+#[tactic(auto, unfolding(avp_dict::specs::Names::described, avp_dict::specs::Names::form_of, avp_dict::specs::Dictionary::typing_of_id, avp_dict::specs::Spellings::value_spelled, avp_dict::specs::Spellings::spelled, avp_dict::specs::Spellings::bytes_spelled, avp_dict::specs::Spellings::octets_spelled))]
+fn is_untold(alloc: Global, dictionary: &Dictionary, id: AttrId) -> Result<bool, AllocError>
+    requires { is_unsplit id ≡ false }
+    ensures { IfOk result (λ untold. untold ≡ is_untold id dictionary.now) }
+{
+    match (dictionary.by_id(id), dictionary.form(id)) {
+        (
+            Some(
+                Entry {
+                    kind: Kind::Bytes,
+                    ..
+                },
+            ),
+            Some(Form::AsTyped),
+        ) => {
+            let named = Named { id, raw: false };
+            match dictionary.value_of_text(alloc, named, b"") {
+                Err(ValueFault::NotValue) => Ok(true),
+                Err(ValueFault::Memory) => Err(AllocError),
+                Ok(_) | Err(ValueFault::NotWritable | ValueFault::TooLong) => Ok(false),
+            }
+        }
+        _ => Ok(false),
+    }
+}
+
+// The attribute for which a name stands, if the name makes it secret.
+#[tactic(auto, using(crate::proofs::SecretIds::stands_for_none, crate::proofs::SecretIds::is_known, crate::proofs::SecretIds::is_plain, crate::proofs::SecretIds::is_secret))]
+fn push_secret(
+    ids: &mut Vec<AttrId>,
+    dictionary: &Dictionary,
+    name: &[u8],
+) -> Result<(), AllocError>
+    ensures { OnOk result ((names : List (List ℕ)) → AreFoundIn dictionary.now names ids.old.items
+        → AreFoundIn dictionary.now (names ++ name.now ∷ []) ids.new.items) }
+{
+    let Some(Named { id, .. }) = dictionary.by_name(name) else {
+        return Ok(());
+    };
+    if is_secret_alone(dictionary, id) || has_id(ids, id) {
+        return Ok(());
+    }
+    if is_secret_name(name) || is_untold(*ids.allocator(), dictionary, id)? {
+        ids.push(id)?;
+    }
+    Ok(())
+}
+
+/// The attributes that are secret by a dictionary, whatever a policy does.
+#[derive(Drop)]
+pub struct SecretAttributes<'a> {
+    dictionary: &'a Dictionary,
+    // Those that one of their names makes secret, and nothing else.
+    ids: Vec<AttrId>,
+}
+
+impl<'a> Model for SecretAttributes<'a> {
+    ghost use Rattle.avp_dict.specs.Dictionary.{Dictionary, first_names};
+    ghost use Rattle.radpolicy_common.specs.internal.SecretIds.{AreFoundIn};
+
+    ghost Value = { Dictionary };
+
+    ghost view = { λ s. s.dictionary.now };
+
+    ghost invariant = { λ s.
+        AreFoundIn s.dictionary.now (first_names s.dictionary.now.attributes) s.ids.items };
+}
+
+impl<'a> SecretAttributes<'a> {
+    /// Goes over the names of a dictionary once.
+    #[tactic(auto, using(crate::proofs::SecretIds::none_found, crate::proofs::SecretIds::next_name, crate::proofs::SecretIds::no_more_names))]
+    pub fn new(
+        alloc: Global,
+        dictionary: &'a Dictionary,
+    ) -> Result<SecretAttributes<'a>, AllocError>
+        ensures { IfOk result (λ attributes. attributes ≡ dictionary.now) }
+    {
+        let mut ids = Vec::new(alloc);
+        for at in 0..usize::MAX {
+            let Some(name) = dictionary.attribute_name(at) else {
+                return Ok(SecretAttributes { dictionary, ids });
+            };
+            push_secret(&mut ids, dictionary, name)?;
+        }
+        Err(AllocError)
+    }
+
+    pub fn dictionary(&self) -> &'a Dictionary
+        ensures { result.now ≡ self.now }
+    {
+        self.dictionary
+    }
+
+    /// Whether an attribute's values are not to be shown. By number: one of the [`SECRET_IDS`], and what holds other
+    /// attributes and was not split into them (26, 241 to 246, and 26 of these). By the dictionary: it does not describe
+    /// the attribute; a line of it has `encrypt=1`, `encrypt=2`, `encrypt=3` or `secret`
+    /// ([`is_marked_secret`](Dictionary::is_marked_secret)); one of its names for the attribute is a secret one
+    /// ([`is_secret_name`]); or the type word is none that is known, as `tlv`.
+    pub fn is_secret_attribute(&self, id: AttrId) -> bool
+        ensures { result ≡ is_secret_attribute id self.now }
+    {
+        is_secret_alone(self.dictionary, id) || has_id(&self.ids, id)
+    }
+
+    /// Whether a value is not to be shown: an attribute's that is secret, or one with a secret text
+    /// ([`is_secret_text`]).
+    #[tactic(auto, unfolding(crate::specs::SecretAttributes::is_secret))]
+    pub fn is_secret(&self, id: AttrId, value: &Value) -> bool
+        ensures { result ≡ is_secret id value.now self.now }
+    {
+        self.is_secret_attribute(id) || holds_secret_text(value)
+    }
 }

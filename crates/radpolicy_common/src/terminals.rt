@@ -4,7 +4,7 @@ ghost use Rattle.std.specs.Prelude.{◌≡◌, ◌++◌, true, IfOk, OnOk};
 ghost use Rattle.std.specs.List.{list_all};
 ghost use Rattle.std.specs.Str.{IsUtf8};
 ghost use Rattle.avp_dict.specs.Quotes.{octal_escape};
-ghost use Rattle.radpolicy_common.specs.VisibleText.{IsVisibleText, all_visible, char_shown, is_visible, octal_text, text_shown};
+ghost use Rattle.radpolicy_common.specs.VisibleText.{IsVisibleText, all_visible, char_shown, is_visible, octal_text, text_shown, visible_text};
 ghost use Rattle.radpolicy_common.specs.internal.PlainText.{is_plain};
 
 use std::alloc::{AllocError, Global};
@@ -141,6 +141,7 @@ fn filtered_text(alloc: Global, octets: &[u8], breaks: LineBreaks) -> Result<Vec
     ensures visible { IfOk result (λ text. all_visible breaks text.items ≡ true) }
     ensures text { IsUtf8 octets.now
         → IfOk result (λ text. text.items ≡ text_shown breaks octets.now) }
+    ensures parts { IfOk result (λ text. text.items ≡ visible_text breaks octets.now) }
 {
     let mut text = Vec::new(alloc);
     for chunk in octets.utf8_chunks() {
@@ -152,13 +153,15 @@ fn filtered_text(alloc: Global, octets: &[u8], breaks: LineBreaks) -> Result<Vec
 
 /// Octets as they may be shown on a terminal: control characters (below 0x20, 0x7f, and U+0080 to U+009F) and octets
 /// that are no UTF-8 as `\` and three octal digits each. LF and TAB are kept where that is asked for.
-#[tactic(auto, using(crate::proofs::PlainText::plain_is_shown, crate::proofs::PlainText::plain_is_utf8, crate::proofs::PlainText::plain_is_visible, crate::proofs::PlainText::plain_is_text))]
+#[tactic(auto, using(crate::proofs::PlainText::plain_is_shown, crate::proofs::PlainText::plain_is_utf8, crate::proofs::PlainText::plain_is_visible, crate::proofs::PlainText::plain_is_text, crate::proofs::PlainText::plain_is_parts))]
 pub fn visible_text(alloc: Global, octets: &[u8], breaks: LineBreaks) -> Result<Vec<u8>, AllocError>
     ensures shown { IfOk result (λ text. IsVisibleText breaks octets.now text.items) }
     ensures utf8 { IfOk result (λ text. IsUtf8 text.items) }
     ensures visible { IfOk result (λ text. all_visible breaks text.items ≡ true) }
     ensures text { IsUtf8 octets.now
         → IfOk result (λ text. text.items ≡ text_shown breaks octets.now) }
+    // There is one such text.
+    ensures parts { IfOk result (λ text. text.items ≡ visible_text breaks octets.now) }
 {
     // (most texts are plain, and to copy one is several times as fast as to look for its characters)
     if are_plain(octets, breaks) {

@@ -59,6 +59,8 @@ pub(crate) struct Context<'a> {
     pub brackets: usize,
     /// The last name of an attribute that was set or compared.
     pub name: &'a str,
+    /// How many octets are before it.
+    pub name_offset: usize,
 }
 
 pub(crate) fn is_code(word: &str) -> bool {
@@ -86,7 +88,13 @@ impl<'a> Context<'a> {
             keyword: "",
             brackets: 0,
             name: "",
+            name_offset: 0,
         }
+    }
+
+    fn read_name(&mut self, token: Token<'a>) {
+        self.name = token.text();
+        self.name_offset = token.offset;
     }
 
     fn read_statement(&mut self, token: Token<'a>) {
@@ -122,7 +130,7 @@ impl<'a> Context<'a> {
             self.blocks.pop();
             self.expected = Expected::Statement;
         } else if token.is_word() {
-            self.name = token.text();
+            self.read_name(token);
             self.expected = Expected::Operator;
         }
     }
@@ -148,7 +156,7 @@ impl<'a> Context<'a> {
         } else if token.text().starts_with("\"") || token.text().starts_with("'") {
             self.expected = Expected::TextRelation;
         } else if token.is_word() {
-            self.name = token.text();
+            self.read_name(token);
             self.expected = Expected::Relation;
         }
     }
@@ -185,7 +193,7 @@ impl<'a> Context<'a> {
             }
             Expected::Operand => self.read_operand(token),
             Expected::Reference => {
-                self.name = token.text();
+                self.read_name(token);
                 self.expected = Expected::Relation;
             }
             Expected::Relation

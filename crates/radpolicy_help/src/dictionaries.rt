@@ -3,11 +3,15 @@
 use crate::dictionary_lines::{
     DictionaryLine, Keyword, RefusedWord, end_of_block, nearest_names, open_block,
 };
+use crate::halves::HIDDEN;
+use crate::hidden::Hidden;
 use crate::nearest::nearest_of;
-use crate::places::push_place;
+use crate::places::{Quoted, push_place};
 use crate::policy_tokens::text_of;
+use crate::secret_words::hidden_of;
 use crate::sources::{Source, Sources};
 use crate::texts::{push_all, push_choices};
+use crate::unread_secrets::UnreadSecrets;
 use avp_dict::{DictFault, DictKind, last_component};
 use std::alloc::{AllocError, Global};
 
@@ -54,7 +58,12 @@ fn push_line(
     line: DictionaryLine<'_>,
 ) -> Result<(), AllocError> {
     push_all(help, &["; ", end, ":\n"])?;
-    push_place(alloc, help, line.file, line.start)
+    let nothing = Hidden::none(alloc);
+    let quoted = Quoted {
+        source: line.file,
+        hidden: &nothing,
+    };
+    push_place(alloc, help, quoted, line.start)
 }
 
 // A line begins with no keyword.
@@ -311,11 +320,27 @@ fn push_sentences(
     }
 }
 
+// What is hidden of a file. The lines of a dictionary have no secret; a line that begins otherwise may be one of another
+// file that was given as a dictionary.
+fn hidden_in_file(
+    alloc: Global,
+    secrets: &UnreadSecrets<'_>,
+    text: &[u8],
+    refused: &RefusedWord<'_>,
+) -> Result<Hidden, AllocError> {
+    if refused.keyword().is_some() {
+        Ok(Hidden::none(alloc))
+    } else {
+        hidden_of(alloc, secrets, text, &[])
+    }
+}
+
 /// What is said of a fault of dictionary files.
 pub(crate) fn dictionary_help(
     alloc: Global,
     fault: DictFault,
     sources: &Sources<'_>,
+    secrets: &UnreadSecrets<'_>,
 ) -> Result<Vec<u8>, AllocError> {
     let mut help = Vec::new(alloc);
     let file = sources.files.as_slice().get(fault.file);
@@ -324,9 +349,17 @@ pub(crate) fn dictionary_help(
         return Ok(help);
     };
     let text = file.octets.as_slice();
-    let refused = RefusedWord::new(alloc, text, fault.file, fault.offset)?;
+    let mut refused = RefusedWord::new(alloc, text, fault.file, fault.offset)?;
+    let hidden = hidden_in_file(alloc, secrets, text, &refused)?;
+    if hidden.hides(text, fault.offset, refused.word.len()) {
+        refused.word = HIDDEN.as_bytes();
+    }
     let file = Source { path, text };
-    push_place(alloc, &mut help, file, fault.offset)?;
+    let quoted = Quoted {
+        source: file,
+        hidden: &hidden,
+    };
+    push_place(alloc, &mut help, quoted, fault.offset)?;
     push_sentences(alloc, &mut help, fault.kind, &refused, file, sources)?;
     Ok(help)
 }

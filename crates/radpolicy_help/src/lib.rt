@@ -14,7 +14,10 @@ mod contexts;
 mod dictionaries;
 mod dictionary_lines;
 mod explanations;
+mod found;
 mod groupings;
+mod halves;
+mod hidden;
 mod names;
 mod nearest;
 mod packets;
@@ -26,10 +29,16 @@ mod policy_tokens;
 mod printing;
 mod refusing;
 mod requests;
+mod runs;
+mod secret_words;
 mod sources;
 mod statements;
 mod stops;
 mod texts;
+mod unclear_operands;
+mod unknown_names;
+mod unread_flows;
+mod unread_secrets;
 mod values;
 mod warnings;
 mod watching;
@@ -37,15 +46,17 @@ mod wishes;
 mod written_pairs;
 
 pub use command_lines::{explain_unread, explain_words};
-pub use explanations::explain;
+pub use explanations::{explain, explain_by};
 pub use names::explain_name;
 pub use pointing::{Pointed, point_at};
 pub use printing::print_with_help;
 pub use refusing::{
-    refuse_explained, refuse_unread_explained, refuse_with_help, refuse_words_of, tell_help,
+    refuse_explained, refuse_name, refuse_unread_explained, refuse_with_help, refuse_words_of,
+    tell_help, tell_unread,
 };
 pub use sources::{STANDARD_INPUT, Source, Sources};
 pub use statements::without_statement;
 pub use stops::stop_text;
+pub use unread_secrets::UnreadSecrets;
 pub use warnings::{Advice, Finding, findings, warnings_text};
 pub use wishes::is_help_wanted;

@@ -9,6 +9,7 @@ use crate::nearest::Nearest;
 use crate::policy_tokens::text_of;
 use crate::sources::Sources;
 use crate::texts::{push_all, push_choices};
+use crate::unread_secrets::UnreadSecrets;
 use avp_dict::{Dictionary, FileSet, next_line, words_between_blanks};
 use radpolicy_common::{LineBreaks, visible_text};
 use std::alloc::{AllocError, Global};
@@ -41,6 +42,22 @@ fn nearest_attributes<'a>(
         *name = written_name(dictionary, name);
     }
     Ok(nearest.names)
+}
+
+/// Whether one of the attributes is secret whose names are nearest to a word. A tag may follow the word.
+pub(crate) fn is_near_secret(
+    alloc: Global,
+    secrets: &UnreadSecrets<'_>,
+    word: &str,
+) -> Result<bool, AllocError> {
+    let dictionary = secrets.redaction().dictionary();
+    let (name, _) = word.split_once(":").unwrap_or((word, ""));
+    for near in &nearest_attributes(alloc, dictionary, name)? {
+        if secrets.names_secret(alloc, near.as_bytes())? {
+            return Ok(true);
+        }
+    }
+    Ok(false)
 }
 
 // Whether a line defines an attribute of this name.

@@ -5,6 +5,25 @@ use crate::texts::{push_all, push_number};
 use avp_packet::PacketFault;
 use std::alloc::{AllocError, Global};
 
+/// How many hexadecimal digits in a row, blanks aside, may be a packet's.
+const PACKET_DIGITS: usize = 16;
+
+/// Whether a line may have a part of a packet in hexadecimal digits.
+pub(crate) fn has_packet_digits(line: &[u8]) -> bool {
+    let mut count = 0usize;
+    for octet in line {
+        if octet.is_ascii_hexdigit() {
+            count = count.saturating_add(1);
+        } else if !octet.is_ascii_whitespace() {
+            count = 0;
+        }
+        if count >= PACKET_DIGITS {
+            return true;
+        }
+    }
+    false
+}
+
 /// The octets of hexadecimal digits with white space among them.
 pub(crate) fn packet_octets(alloc: Global, text: &[u8]) -> Result<Vec<u8>, AllocError> {
     let mut digits = Vec::new(alloc);

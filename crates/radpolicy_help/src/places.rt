@@ -1,5 +1,7 @@
 //! Where a place is: a path, a line, a column, and the line itself.
 
+use crate::halves::Halves;
+use crate::hidden::Hidden;
 use crate::pointing::point_at;
 use crate::sources::Source;
 use crate::texts::{push_all, push_number};
@@ -23,6 +25,27 @@ pub(crate) fn first_line(text: &[u8]) -> &[u8] {
     }
 }
 
+pub(crate) fn is_quote(octet: u8) -> bool {
+    octet == b'"' || octet == b'\''
+}
+
+/// The place of the first quote on the line of a place, before it.
+pub(crate) fn first_quote(text: &[u8], place: usize) -> Option<usize> {
+    let line = last_line(text.get(..place).unwrap_or(text));
+    let at = line.iter().position(|octet| is_quote(*octet))?;
+    Some(place.saturating_sub(line.len()).saturating_add(at))
+}
+
+/// Where a text between quotes may begin that ends at a place: at the first quote of its line, or where the line begins if
+/// no quote but the last is on it.
+pub(crate) fn quoted_from(text: &[u8], place: usize) -> usize {
+    let line = last_line(text.get(..place).unwrap_or(text));
+    match first_quote(text, place) {
+        Some(quote) if quote.saturating_add(1) < place => quote,
+        _ => place.saturating_sub(line.len()),
+    }
+}
+
 // How many characters octets are; how many octets where they are no UTF-8.
 fn count_characters(octets: &[u8]) -> usize {
     match str::from_utf8(octets) {
@@ -41,21 +64,62 @@ fn column(front: &[u8], back: &[u8]) -> usize {
     before.saturating_add(1)
 }
 
-/// Adds the place that so many octets of a file are before: `PATH:LINE:COLUMN`, and unless it is empty the line, with a
-/// caret below the place.
-pub(crate) fn push_place(
-    alloc: Global,
+/// A file as it is quoted.
+#[derive(Clone, Copy)]
+pub(crate) struct Quoted<'a> {
+    pub source: Source<'a>,
+    pub hidden: &'a Hidden,
+}
+
+impl<'a> Quoted<'a> {
+    // What is shown of the line of a place, before the place and from there on.
+    fn halves(&self, alloc: Global, offset: usize) -> Result<Halves<'a>, AllocError> {
+        let text = self.source.text;
+        let (before, after) = text.split_at(offset.min(text.len()));
+        let (front, back) = (last_line(before), first_line(after));
+        let start = before.len().saturating_sub(front.len());
+        let end = before.len().saturating_add(back.len());
+        Halves::of(alloc, self.hidden.kept(start, end), front, back)
+    }
+}
+
+// `PATH:LINE:COLUMN` of a place.
+fn push_numbers(
+    help: &mut Vec<u8>,
+    source: Source<'_>,
+    offset: usize,
+    column: usize,
+) -> Result<(), AllocError> {
+    let before = source.text.get(..offset).unwrap_or(source.text);
+    push_all(help, &[source.path, ":"])?;
+    push_number(help, line_after(before))?;
+    push_all(help, &[":"])?;
+    push_number(help, column)?;
+    push_all(help, &["\n"])
+}
+
+/// Adds the place that so many octets of a file are before, without its line: `PATH:LINE:COLUMN`.
+pub(crate) fn push_bare_place(
     help: &mut Vec<u8>,
     source: Source<'_>,
     offset: usize,
 ) -> Result<(), AllocError> {
     let (before, after) = source.text.split_at(offset.min(source.text.len()));
-    let (front, back) = (last_line(before), first_line(after));
-    push_all(help, &[source.path, ":"])?;
-    push_number(help, line_after(before))?;
-    push_all(help, &[":"])?;
-    push_number(help, column(front, back))?;
-    push_all(help, &["\n"])?;
+    let column = column(last_line(before), first_line(after));
+    push_numbers(help, source, offset, column)
+}
+
+/// Adds the place that so many octets of a file are before: `PATH:LINE:COLUMN`, and unless it is empty the line as it is
+/// shown, with a caret below the place. A place in what is hidden is where that begins.
+pub(crate) fn push_place(
+    alloc: Global,
+    help: &mut Vec<u8>,
+    quoted: Quoted<'_>,
+    offset: usize,
+) -> Result<(), AllocError> {
+    let halves = quoted.halves(alloc, offset)?;
+    let (front, back) = (halves.front, halves.back.as_slice());
+    push_numbers(help, quoted.source, offset, column(front, back))?;
     if !front.is_empty() || !back.is_empty() {
         let pointed = point_at(alloc, front, back)?;
         push_all(help, &["    "])?;

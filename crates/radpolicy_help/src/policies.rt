@@ -1,22 +1,26 @@
 //! Help for faults of policies.
 
 use crate::allowances::push_unread_profile;
-use crate::captures::{group_hint, has_number, is_group, is_number, next_expansion, operand_hint};
-use crate::contexts::{Context, Expected, context_after, expected_text, is_code};
-use crate::names::push_unknown_attribute;
+use crate::captures::{has_number, operand_hint};
+use crate::contexts::{Context, Expected, context_after, expected_text};
+use crate::found::Found;
+use crate::halves::HIDDEN;
 use crate::nearest::nearest_of;
 use crate::patterns::{fault_place, push_pattern_fault, unread_pattern_hint};
-use crate::places::{last_line, push_place};
-use crate::policy_tokens::{from_token, is_match, is_update_operator, text_of, token_of};
+use crate::places::{Quoted, last_line, push_place};
+use crate::policy_tokens::{is_match, is_update_operator};
+use crate::secret_words::hidden_of;
 use crate::sources::Sources;
 use crate::texts::{push_all, push_choices};
-use crate::values::{push_not_value, tag_hint};
-use avp_dict::Dictionary;
+use crate::unknown_names::{misspelt_at, name_in, push_unknown};
+use crate::unread_secrets::UnreadSecrets;
+use crate::values::push_not_value;
 use avp_forms::{Profile, profile_of};
 use avp_unlang::{PolicyFault, PolicyKind};
 use std::alloc::{AllocError, Global};
 
-const STATEMENT_WORDS: [&str; 10] = [
+/// The words with which a statement begins.
+pub(crate) const STATEMENT_WORDS: [&str; 10] = [
     "update",
     "if",
     "elsif",
@@ -30,8 +34,6 @@ const STATEMENT_WORDS: [&str; 10] = [
 ];
 
 const LISTS: [&str; 3] = ["request", "reply", "control"];
-
-const CODES: [&str; 5] = ["ok", "noop", "updated", "fail", "reject"];
 
 // What to do where a statement begins with a word of the server's language.
 fn statement_hint(word: &str) -> Option<&'static str> {
@@ -190,19 +192,21 @@ fn push_misplaced_hint(
     alloc: Global,
     help: &mut Vec<u8>,
     context: &Context<'_>,
-    found: &str,
-    next: &str,
+    found: &Found<'_>,
     profile: Profile,
 ) -> Result<(), AllocError> {
+    let token = without_pattern(found.token);
     let hint = match context.expected {
-        Expected::Statement if found == "}" => "no block is open: take this } out",
-        Expected::Statement => return push_statement_hint(alloc, help, found, next),
-        Expected::UpdateList => return push_list_hint(alloc, help, found),
-        Expected::StatementBlock if context.keyword == "else" && found == "if" => "write elsif",
+        // (what would be said here would tell of the word)
+        Expected::Statement | Expected::UpdateList if found.is_hidden() => return Ok(()),
+        Expected::Statement if token == "}" => "no block is open: take this } out",
+        Expected::Statement => return push_statement_hint(alloc, help, token, found.next),
+        Expected::UpdateList => return push_list_hint(alloc, help, token),
+        Expected::StatementBlock if context.keyword == "else" && token == "if" => "write elsif",
         Expected::StatementBlock | Expected::LineBlock => "a { is missing before it",
         Expected::Condition => "write the condition between ( and )",
         Expected::Line | Expected::Operator | Expected::Value | Expected::Source => {
-            update_hint(context, found)
+            update_hint(context, token)
         }
         Expected::Operand
         | Expected::Reference
@@ -211,7 +215,7 @@ fn push_misplaced_hint(
         | Expected::ComparedReference
         | Expected::Joint
         | Expected::TextRelation
-        | Expected::GroupRelation => condition_hint(context, found, profile),
+        | Expected::GroupRelation => condition_hint(context, token, profile),
     };
     push_all(help, &[hint, "\n"])
 }
@@ -221,14 +225,14 @@ fn push_end_hint(
     alloc: Global,
     help: &mut Vec<u8>,
     context: &Context<'_>,
-    sources: &Sources<'_>,
+    quoted: Quoted<'_>,
 ) -> Result<(), AllocError> {
     if context.brackets > 0 {
         push_all(
             help,
             &["a ( is open: write ) for it; its condition begins here:\n"],
         )?;
-        return push_place(alloc, help, sources.policy, context.begin);
+        return push_place(alloc, help, quoted, context.begin);
     }
     match context.blocks.as_slice().last() {
         Some(block) => {
@@ -236,7 +240,7 @@ fn push_end_hint(
                 help,
                 &["a block is open: write } for it; it begins here:\n"],
             )?;
-            push_place(alloc, help, sources.policy, block.offset)
+            push_place(alloc, help, quoted, block.offset)
         }
         None => push_all(help, &["what is begun on the last line is not ended\n"]),
     }
@@ -255,20 +259,21 @@ fn push_misplaced(
     alloc: Global,
     help: &mut Vec<u8>,
     context: &Context<'_>,
-    sources: &Sources<'_>,
-    found: &str,
-    next: &str,
+    quoted: Quoted<'_>,
+    found: &Found<'_>,
 ) -> Result<(), AllocError> {
-    let profile = profile_of(sources.policy.text);
+    let profile = profile_of(quoted.source.text);
     let expected = expected_text(context.expected, !context.blocks.is_empty(), profile);
-    if found.is_empty() {
+    if found.token.is_empty() {
         push_all(help, &["the text ends; here may be ", expected, "\n"])?;
-        return push_end_hint(alloc, help, context, sources);
+        return push_end_hint(alloc, help, context, quoted);
     }
-    let found = without_pattern(found);
-    push_all(help, &["found ", found, "; here may be "])?;
+    push_all(
+        help,
+        &["found ", without_pattern(found.shown), "; here may be "],
+    )?;
     push_all(help, &[expected, "\n"])?;
-    push_misplaced_hint(alloc, help, context, found, next, profile)
+    push_misplaced_hint(alloc, help, context, found, profile)
 }
 
 // What to do about a text between double quotes with an expansion that is none.
@@ -314,109 +319,20 @@ fn unreadable_hint(found: &str) -> &'static str {
     }
 }
 
-fn without_list(word: &str) -> &str {
-    match word.split_once(":") {
-        Some(("request" | "reply" | "control", name)) => name,
-        _ => word,
-    }
-}
-
-// The name of an attribute in a word: without its list, and without the quotes and signs of an expansion.
-fn name_in(found: &str) -> &str {
-    match next_expansion(found) {
-        Some((word, _)) => without_list(word),
-        None => without_list(found),
-    }
-}
-
-// Whether a dictionary has the attribute of this name, whatever tag follows it.
-fn is_attribute(dictionary: &Dictionary, name: &str) -> bool {
-    let name = match name.split_once(":") {
-        Some((name, _)) => name,
-        None => name,
-    };
-    dictionary.by_name(name.as_bytes()).is_some()
-}
-
-// The name of no attribute in a word, or in the first expansion that is neither of an attribute nor of a group.
-fn unknown_name<'a>(alloc: Global, sources: &Sources<'_>, found: &'a str) -> &'a str {
-    let profile = profile_of(sources.policy.text);
-    let Some(dictionary) = sources.dictionary(alloc) else {
-        return name_in(found);
-    };
-    let mut rest = found;
-    for _ in 0..found.len() {
-        let Some((word, others)) = next_expansion(rest) else {
-            break;
-        };
-        let name = without_list(word);
-        if !is_group(word, profile) && !is_attribute(&dictionary, name) {
-            return name;
-        }
-        rest = others;
-    }
-    name_in(found)
-}
-
-fn push_unknown_hint(
+// What is said of a text that is no value.
+fn push_unfit_value(
     alloc: Global,
     help: &mut Vec<u8>,
     sources: &Sources<'_>,
     context: &Context<'_>,
-    name: &str,
+    found: &Found<'_>,
 ) -> Result<(), AllocError> {
-    if name.starts_with("outer.")
-        || name.starts_with("proxy-")
-        || name.starts_with("session-state")
-    {
-        return push_all(
-            help,
-            &["of the server's lists there are request, reply and control\n"],
-        );
+    if context.name == HIDDEN {
+        return push_all(help, &["found ", found.shown, ", which is no value here\n"]);
     }
-    if context.expected == Expected::Operand {
-        if is_server_code(name) {
-            return push_all(
-                help,
-                &["of the server's codes there are ok, noop, updated, fail and reject\n"],
-            );
-        }
-        let codes = nearest_of(alloc, name, &CODES)?;
-        if !codes.is_empty() && !is_code(name) {
-            push_all(help, &["write "])?;
-            push_choices(help, &codes)?;
-            return push_all(help, &["\n"]);
-        }
-    }
-    if let Some((_, tag)) = name.split_once(":") {
-        if tag.len() <= 2 {
-            return push_all(help, &[tag_hint(profile_of(sources.policy.text))]);
-        }
-    }
-    if is_of_module(name) {
-        return push_all(
-            help,
-            &[
-                "a module of the server defines it: give a dictionary of your own with ATTRIBUTE ",
-                name,
-                " 3000 string\n",
-            ],
-        );
-    }
-    push_unknown_attribute(alloc, help, sources, name)
-}
-
-// Whether it is one of a server's codes that the profile leaves out.
-fn is_server_code(word: &str) -> bool {
-    matches!(
-        word,
-        "handled" | "invalid" | "userlock" | "notfound" | "disallow"
-    )
-}
-
-// Whether a server has the attribute from a module when it starts.
-fn is_of_module(name: &str) -> bool {
-    name.eq_ignore_ascii_case("LDAP-Group") || name.eq_ignore_ascii_case("SQL-Group")
+    let profile = profile_of(sources.policy.text);
+    let name = name_in(context.name);
+    push_not_value(alloc, help, sources, profile, name, found.shown)
 }
 
 // What was found, and what to do, by the fault's kind.
@@ -426,41 +342,32 @@ fn push_sentences(
     kind: PolicyKind,
     context: &Context<'_>,
     sources: &Sources<'_>,
-    back: &[u8],
-    next: &str,
+    quoted: Quoted<'_>,
+    found: &Found<'_>,
 ) -> Result<(), AllocError> {
-    let found = text_of(token_of(back));
     match kind {
-        PolicyKind::Misplaced => push_misplaced(alloc, help, context, sources, found, next),
-        PolicyKind::Unreadable if is_match(found) => {
-            push_all(help, &["found ", without_pattern(found), "\n"])?;
-            push_all(help, &[unread_pattern_hint(back), "\n"])
+        PolicyKind::Misplaced => push_misplaced(alloc, help, context, quoted, found),
+        PolicyKind::Unreadable if is_match(found.token) => {
+            push_all(help, &["found ", without_pattern(found.shown), "\n"])?;
+            push_all(help, &[unread_pattern_hint(found.back), "\n"])
         }
         PolicyKind::Unreadable => {
-            push_all(help, &["found ", found, "\n"])?;
-            push_all(help, &[unreadable_hint(found), "\n"])
+            push_all(help, &["found ", found.shown, "\n"])?;
+            push_all(help, &[unreadable_hint(found.token), "\n"])
         }
-        PolicyKind::Unknown => {
-            let name = unknown_name(alloc, sources, found);
-            push_all(help, &["no attribute has the name ", name, "\n"])?;
-            if is_number(name) && found.contains("%{") {
-                let profile = profile_of(sources.policy.text);
-                return push_all(help, &[group_hint(profile), "\n"]);
-            }
-            push_unknown_hint(alloc, help, sources, context, name)
-        }
-        PolicyKind::NotValue => {
-            let profile = profile_of(sources.policy.text);
-            push_not_value(alloc, help, sources, profile, name_in(context.name), found)
-        }
+        PolicyKind::Unknown => push_unknown(alloc, help, sources, context, found),
+        PolicyKind::NotValue => push_unfit_value(alloc, help, sources, context, found),
         PolicyKind::TooLong => push_too_long(help, name_in(context.name)),
-        PolicyKind::NotWritable => push_not_writable(help, name_in(found)),
+        PolicyKind::NotWritable => push_not_writable(help, name_in(found.shown)),
         PolicyKind::TooDeep => push_all(help, &["64 signs { ( and ! are open here already\n"]),
         PolicyKind::TooLarge => push_all(help, &["a policy has at most 65535 lines and words\n"]),
-        PolicyKind::OtherType if found.starts_with('"') => {
+        PolicyKind::OtherType if found.token.starts_with('"') => {
             push_text_beside(help, name_in(context.name))
         }
-        PolicyKind::OtherType => push_other_type(help, name_in(context.name), found),
+        PolicyKind::OtherType if found.is_hidden() => {
+            push_all(help, &["both attributes have to be of one type\n"])
+        }
+        PolicyKind::OtherType => push_other_type(help, name_in(context.name), found.token),
         PolicyKind::NotExpansion => push_all(
             help,
             &["of texts a regular expression searches \"%{Name}\" and \"%{1}\" alone\n"],
@@ -534,27 +441,35 @@ pub(crate) fn policy_help(
     alloc: Global,
     fault: PolicyFault,
     sources: &Sources<'_>,
+    secrets: &UnreadSecrets<'_>,
 ) -> Result<Vec<u8>, AllocError> {
     let text = sources.policy.text;
-    let (front, back) = text.split_at(fault.offset.min(text.len()));
-    let context = context_after(alloc, front)?;
-    let found = token_of(back);
-    let next = text_of(token_of(from_token(back.get(found.len()..).unwrap_or(&[]))));
-    let found = text_of(found);
+    let misspelt = misspelt_at(alloc, sources, secrets, fault)?;
+    let hidden = hidden_of(alloc, secrets, text, misspelt.as_bytes())?;
+    let quoted = Quoted {
+        source: sources.policy,
+        hidden: &hidden,
+    };
+    let found = Found::at(quoted, fault.offset);
+    let front = text.get(..fault.offset).unwrap_or(text);
+    let mut context = context_after(alloc, front)?;
+    context.name = hidden.shown(text, context.name_offset, context.name);
     let mut help = Vec::new(alloc);
     let place = fault.offset.saturating_add(match fault.kind {
-        PolicyKind::Pattern(fault) => fault_place(back, fault),
+        PolicyKind::Pattern(fault) => fault_place(found.back, fault),
         _ => 0,
     });
-    push_place(alloc, &mut help, sources.policy, place)?;
+    push_place(alloc, &mut help, quoted, place)?;
     if fault.kind == PolicyKind::Unknown
         && is_after_value(&context, front)
-        && !is_update_operator(next)
+        && !is_update_operator(found.next)
     {
-        push_all(&mut help, &["found ", found, " after a value\n"])?;
+        push_all(&mut help, &["found ", found.shown, " after a value\n"])?;
         push_all(&mut help, &["put a text with blanks into quotes\n"])?;
     } else {
-        push_sentences(alloc, &mut help, fault.kind, &context, sources, back, next)?;
+        push_sentences(
+            alloc, &mut help, fault.kind, &context, sources, quoted, &found,
+        )?;
     }
     push_unread_profile(&mut help, text)?;
     Ok(help)

@@ -1,11 +1,15 @@
 //! Help for faults of request lines.
 
 use crate::allowances::push_unread_profile;
-use crate::names::push_unknown_attribute;
-use crate::places::{first_line, last_line, push_place};
+use crate::halves::HIDDEN;
+use crate::hidden::Hidden;
+use crate::names::{is_near_secret, push_unknown_attribute};
+use crate::places::{Quoted, first_line, last_line, push_place};
 use crate::policy_tokens::text_of;
+use crate::secret_words::hidden_of;
 use crate::sources::{Source, Sources};
 use crate::texts::push_all;
+use crate::unread_secrets::UnreadSecrets;
 use crate::values::{push_not_value, tag_hint};
 use crate::written_pairs::{WrittenPair, pair_around};
 use avp_dict::{LineFault, LineKind};
@@ -38,6 +42,9 @@ fn push_unknown(
     sources: &Sources<'_>,
     name: &str,
 ) -> Result<(), AllocError> {
+    if name == HIDDEN {
+        return push_all(help, &["no attribute has the name that is hidden here\n"]);
+    }
     push_all(help, &["no attribute has the name ", name, "\n"])?;
     if name.ends_with(":") {
         return push_all(
@@ -51,16 +58,23 @@ fn push_unknown(
     push_unknown_attribute(alloc, help, sources, name)
 }
 
+/// What is shown of a pair, and of the line from the place of its fault on.
+#[derive(Clone, Copy)]
+struct ShownPair<'a> {
+    name: &'a str,
+    value: &'a str,
+    rest: &'a str,
+}
+
 // What was found, and what to do, by the fault's kind.
 fn push_sentences(
     alloc: Global,
     help: &mut Vec<u8>,
     kind: LineKind,
     sources: &Sources<'_>,
-    pair: &WrittenPair<'_>,
-    rest: &str,
+    pair: ShownPair<'_>,
 ) -> Result<(), AllocError> {
-    let (name, value) = (text_of(pair.name), text_of(pair.value));
+    let ShownPair { name, value, rest } = pair;
     match kind {
         LineKind::Unknown if is_of_log(sources.request.text, rest) => push_all(
             help,
@@ -71,6 +85,9 @@ fn push_sentences(
             ],
         ),
         LineKind::Unknown => push_unknown(alloc, help, sources, name),
+        LineKind::NotValue if name == HIDDEN => {
+            push_all(help, &["found ", value, ", which is no value here\n"])
+        }
         LineKind::NotValue => {
             push_not_value(alloc, help, sources, sources.request_profile(), name, value)
         },
@@ -110,22 +127,76 @@ fn push_sentences(
     }
 }
 
+// How many octets of a text are before the line of a place.
+fn start_of_line(text: &[u8], offset: usize) -> usize {
+    let before = text.get(..offset).unwrap_or(text);
+    before.len().saturating_sub(last_line(before).len())
+}
+
+// The pair of a line in which a place is, whose line begins after so many octets of the text.
+fn pair_at(text: &[u8], start: usize, offset: usize) -> WrittenPair<'_> {
+    let line = first_line(text.get(start..).unwrap_or(&[]));
+    pair_around(line, offset.saturating_sub(start))
+}
+
+// The same, as it is shown.
+fn shown_pair<'a>(quoted: Quoted<'a>, offset: usize) -> ShownPair<'a> {
+    let text = quoted.source.text;
+    let start = start_of_line(text, offset);
+    let pair = pair_at(text, start, offset);
+    let name_offset = start.saturating_add(pair.name_offset);
+    let value_offset = start.saturating_add(pair.value_offset);
+    ShownPair {
+        name: quoted.hidden.shown(text, name_offset, text_of(pair.name)),
+        value: quoted.hidden.shown(text, value_offset, text_of(pair.value)),
+        rest: text_of(first_line(text.get(offset..).unwrap_or(&[]))),
+    }
+}
+
+// The name at the place of a fault, if it is near to that of a secret attribute.
+fn misspelt_at<'a>(
+    alloc: Global,
+    secrets: &UnreadSecrets<'_>,
+    text: &'a [u8],
+    fault: LineFault,
+) -> Result<&'a [u8], AllocError> {
+    let name = pair_at(text, start_of_line(text, fault.offset), fault.offset).name;
+    if fault.kind == LineKind::Unknown && is_near_secret(alloc, secrets, text_of(name))? {
+        Ok(name)
+    } else {
+        Ok(&[])
+    }
+}
+
+// Hides the value of a pair without a name at the place of a fault: nothing tells whose it is.
+fn hide_nameless(hidden: &mut Hidden, text: &[u8], fault: LineFault) -> Result<(), AllocError> {
+    let start = start_of_line(text, fault.offset);
+    let pair = pair_at(text, start, fault.offset);
+    if pair.name.is_empty() && !pair.value.is_empty() {
+        hidden.add(start.saturating_add(pair.value_offset))?;
+    }
+    Ok(())
+}
+
 /// What is said of a fault of lines.
 pub(crate) fn line_help(
     alloc: Global,
     fault: LineFault,
     source: Source<'_>,
     sources: &Sources<'_>,
+    secrets: &UnreadSecrets<'_>,
 ) -> Result<Vec<u8>, AllocError> {
-    let (before, after) = source.text.split_at(fault.offset.min(source.text.len()));
-    let offset = last_line(before).len();
-    let start = before.len().saturating_sub(offset);
-    let line = first_line(source.text.get(start..).unwrap_or(&[]));
-    let pair = pair_around(line, offset);
-    let rest = text_of(first_line(after));
+    let misspelt = misspelt_at(alloc, secrets, source.text, fault)?;
+    let mut hidden = hidden_of(alloc, secrets, source.text, misspelt)?;
+    hide_nameless(&mut hidden, source.text, fault)?;
+    let quoted = Quoted {
+        source,
+        hidden: &hidden,
+    };
     let mut help = Vec::new(alloc);
-    push_place(alloc, &mut help, source, fault.offset)?;
-    push_sentences(alloc, &mut help, fault.kind, sources, &pair, rest)?;
+    push_place(alloc, &mut help, quoted, fault.offset)?;
+    let pair = shown_pair(quoted, fault.offset);
+    push_sentences(alloc, &mut help, fault.kind, sources, pair)?;
     if !sources.is_request_wider {
         push_unread_profile(&mut help, source.text)?;
     }

@@ -1,10 +1,10 @@
 //! The files that a fault may be in.
 
-use avp_dict::{Dictionary, FileSet};
+use avp_dict::{DictKind, Dictionary, FileSet, NamedFile};
 use avp_forms::{Profile, profile_of};
 use avp_lists::Octets;
 use radpolicy::{Job, Plan};
-use std::alloc::Global;
+use std::alloc::{AllocError, Global};
 
 /// A file, as it was named on the command line, and what it holds.
 #[derive(Clone, Copy)]
@@ -27,6 +27,8 @@ pub struct Sources<'a> {
     pub secret: &'a str,
     /// The request is read in the forms of the wider profile, whatever its first line says.
     pub is_request_wider: bool,
+    /// The names of attributes that are secret as well, as if the dictionary marked them.
+    pub hidden: &'a [&'a str],
 }
 
 const NOTHING: Source<'static> = Source {
@@ -58,6 +60,7 @@ impl<'a> Sources<'a> {
             script: source_at(plan.script, job.script.as_ref()),
             secret: plan.secret.unwrap_or(""),
             is_request_wider: false,
+            hidden: &[],
         }
     }
 
@@ -71,6 +74,7 @@ impl<'a> Sources<'a> {
             script: NOTHING,
             secret: "",
             is_request_wider: false,
+            hidden: &[],
         }
     }
 
@@ -90,4 +94,32 @@ impl<'a> Sources<'a> {
         }
         Dictionary::read(alloc, self.files).ok()
     }
+
+    /// The dictionary; one without a line where it is refused.
+    pub(crate) fn dictionary_or_none(&self, alloc: Global) -> Result<Dictionary, AllocError> {
+        match read_dictionary(alloc, self.files)? {
+            Some(dictionary) => Ok(dictionary),
+            None => read_dictionary(alloc, &empty_set(alloc)?)?.ok_or(AllocError),
+        }
+    }
+}
+
+// The dictionary of these files; none where it is refused.
+fn read_dictionary(alloc: Global, files: &FileSet) -> Result<Option<Dictionary>, AllocError> {
+    if files.is_empty() || !files.has_distinct_names() {
+        return Ok(None);
+    }
+    match Dictionary::read(alloc, files) {
+        Ok(dictionary) => Ok(Some(dictionary)),
+        Err(fault) if fault.kind == DictKind::Memory => Err(AllocError),
+        Err(_) => Ok(None),
+    }
+}
+
+// A file without a line.
+fn empty_set(alloc: Global) -> Result<FileSet, AllocError> {
+    let mut files = Vec::new(alloc);
+    let octets = Octets::from_vec(Vec::new(alloc));
+    files.push(NamedFile::at(alloc, "dictionary", octets)?)?;
+    Ok(FileSet::from_vec(files))
 }

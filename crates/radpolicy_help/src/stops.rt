@@ -9,11 +9,15 @@ use crate::places::{first_line, line_start};
 use crate::policy_tokens::{Token, is_update_operator, tokens};
 use crate::sources::{Source, Sources};
 use crate::texts::{push_all, push_number};
+use crate::watching::ids_of;
 use avp_dict::Dictionary;
 use avp_forms::profile_of;
 use avp_step::Label;
+use avp_unlang::read_policy;
 use radpolicy::{Fault, Form, Job, PreparedPolicy, RequestHead, RequestKind, Secret, Start};
-use radpolicy_common::{LineBreaks, reason_text, visible_text};
+use radpolicy_common::{
+    Hiding, LineBreaks, Redaction, SecretValues, policy_shown, reason_text, visible_text,
+};
 use std::alloc::{AllocError, Global};
 
 /// The step that stopped a run.
@@ -137,18 +141,52 @@ fn up_to_comment<'a>(line: &'a [u8], tokens: &[Token<'_>]) -> &'a [u8] {
     }
 }
 
-// `PATH:LINE: SOURCE: why`.
-fn push_stop(text: &mut Vec<u8>, source: Source<'_>, stop: Stop) -> Result<(), AllocError> {
-    let start = line_start(source.text, stop.line);
-    let line = first_line(source.text.get(start..).unwrap_or(&[])).trim_ascii();
-    let tokens = tokens(*text.allocator(), line)?;
+// A line of a text without the blanks round it.
+fn line_at(text: &[u8], number: usize) -> &[u8] {
+    let start = line_start(text, number);
+    first_line(text.get(start..).unwrap_or(&[])).trim_ascii()
+}
+
+// A policy as it is shown: without the values that are secret in it.
+fn shown_policy(
+    alloc: Global,
+    dictionary: &Dictionary,
+    sources: &Sources<'_>,
+) -> Result<Vec<u8>, AllocError> {
+    let text = sources.policy.text;
+    let given = ids_of(alloc, dictionary, sources.hidden)?;
+    let hiding = Hiding {
+        secrets: SecretValues::Hidden,
+        given: &given,
+    };
+    match read_policy(alloc, dictionary, text) {
+        Ok(policy) => {
+            let redaction = Redaction::new(alloc, dictionary, hiding, &[&policy])?;
+            policy_shown(alloc, &redaction, text)
+        }
+        Err(_) => Ok(Vec::new(alloc)),
+    }
+}
+
+// `PATH:LINE: SOURCE: why`, with the source as it is shown.
+fn push_stop(
+    text: &mut Vec<u8>,
+    source: Source<'_>,
+    shown: &[u8],
+    stop: Stop,
+) -> Result<(), AllocError> {
+    let alloc = *text.allocator();
+    let line = line_at(shown, stop.line);
     push_all(text, &[source.path, ":"])?;
     push_number(text, stop.line)?;
     push_all(text, &[": "])?;
-    text.extend_from_slice(up_to_comment(line, &tokens))?;
+    text.extend_from_slice(up_to_comment(line, &tokens(alloc, line)?))?;
     push_all(text, &[": "])?;
     match stop.reason {
-        Some(reason) => push_reason(text, &tokens, reason),
+        Some(reason) => {
+            let tokens = tokens(alloc, line_at(source.text, stop.line))?;
+            push_reason(text, &tokens, reason)
+        }
         None => push_all(text, &["the run was stopped here\n"]),
     }
 }
@@ -159,14 +197,15 @@ fn draft(alloc: Global, sources: &Sources<'_>, job: &Job) -> Result<Vec<u8>, All
         return Ok(text);
     };
     if let Ok(Some(stop)) = stop_of_job(alloc, &dictionary, job) {
-        push_stop(&mut text, sources.policy, stop)?;
+        let shown = shown_policy(alloc, &dictionary, sources)?;
+        push_stop(&mut text, sources.policy, &shown, stop)?;
     }
     Ok(text)
 }
 
 /// Why the run of a job was stopped: the place and the text of the line that stopped it, and of an update line the
 /// reason, as `policy:3: Class := &Class: the request has no Class (P1)`. It is empty where the run was not stopped. It
-/// has no control character but line ends, whatever the files hold.
+/// has no control character but line ends, whatever the files hold. What is secret in the policy is hidden.
 pub fn stop_text(alloc: Global, sources: &Sources<'_>, job: &Job) -> Result<Vec<u8>, AllocError>
     ensures visible { IfOk result (λ text. all_visible Kept text.items ≡ true) }
 {

@@ -12,7 +12,10 @@ use crate::watching::Watcher;
 use avp_dict::{Dictionary, line_after};
 use avp_forms::{Profile, profile_of};
 use avp_unlang::{Policy, read_policy};
-use policy_warnings::{Reason, Warning, count_warnings, repeated_conditions, warnings_of};
+use policy_warnings::{
+    Reason, Warning, answered_warnings, bare_names, count_warnings, repeated_conditions,
+    warnings_of,
+};
 use radpolicy_common::{LineBreaks, visible_text};
 use std::alloc::{AllocError, Global};
 
@@ -100,6 +103,27 @@ const REPEATED_CONDITION: Advice = Advice {
     hint: "take the branch out, or ask for what was meant",
 };
 
+const BARE_NAME: Advice = Advice {
+    name: "bare-name",
+    found: "a word without quotes that is the name of an attribute",
+    server: "a server takes it for the attribute, and here it is a text or the name of a value",
+    hint: "write &User-Name for the attribute, or \"User-Name\" for the text",
+};
+
+const VIRTUAL_ATTRIBUTE: Advice = Advice {
+    name: "virtual-attribute",
+    found: "an attribute that a server makes itself",
+    server: "a server makes it of the packet or of its own state, and here it is there only where the list has it",
+    hint: "put it into the request, as Packet-Src-IP-Address = 192.0.2.1",
+};
+
+const MODULE_COMPARISON: Advice = Advice {
+    name: "module-comparison",
+    found: "a comparison for which a server asks a module",
+    server: "a module answers == and != with it, whatever the request has, and here it is an attribute like any other",
+    hint: "put what the module would find into the request, as Group = \"staff\"",
+};
+
 const UNUSED_ALLOWANCE: Advice = Advice {
     name: "unused-allow",
     found: "the comment silences no warning",
@@ -124,6 +148,9 @@ fn advice_on(reason: Reason) -> Advice {
         Reason::SeveralInstances => SEVERAL_INSTANCES,
         Reason::AbsentSource => ABSENT_SOURCE,
         Reason::RepeatedCondition => REPEATED_CONDITION,
+        Reason::BareName => BARE_NAME,
+        Reason::VirtualAttribute => VIRTUAL_ATTRIBUTE,
+        Reason::ModuleComparison => MODULE_COMPARISON,
     }
 }
 
@@ -161,6 +188,11 @@ fn all_findings(
     add_warned(&mut found, &warnings_of(alloc, statements)?)?;
     add_warned(&mut found, &count_warnings(alloc, statements)?)?;
     add_warned(&mut found, &repeated_conditions(alloc, statements)?)?;
+    add_warned(&mut found, &bare_names(alloc, dictionary, text)?)?;
+    add_warned(
+        &mut found,
+        &answered_warnings(alloc, dictionary, statements)?,
+    )?;
     add_regrouped(alloc, &mut found, text)?;
     Watcher::new(alloc, dictionary)?.add_block(&mut found, statements)?;
     found.sort_by_key(|finding| finding.line)?;

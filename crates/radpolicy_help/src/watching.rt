@@ -1,21 +1,11 @@
-//! Warnings by the names of attributes: of those that a server makes of the packet, of those that it obeys in the
-//! control list, and of dates in texts.
+//! Warnings by the names and types of attributes: of those that a server obeys in the control list, and of dates in
+//! texts.
 
 use crate::warnings::{Advice, Finding};
 use avp_dict::{Dictionary, Form};
 use avp_lists::{AttrId, List, Op};
-use avp_unlang::{
-    Branch, Comparand, Comparison, Cond, Line, MeantComparand, MeantComparison, Part, Source,
-    Statement, TextSide,
-};
+use avp_unlang::{Branch, Line, Part, Source, Statement};
 use std::alloc::{AllocError, Global};
-
-const VIRTUAL_ATTRIBUTE: Advice = Advice {
-    name: "virtual-attribute",
-    found: "an attribute that a server makes of the packet",
-    server: "a server always has it, and here it is there only where the request has it",
-    hint: "put it into the request, as Packet-Src-IP-Address = 192.0.2.1",
-};
 
 const OBEYED_CONTROL: Advice = Advice {
     name: "obeyed-control",
@@ -31,15 +21,6 @@ const PRINTED_DATE: Advice = Advice {
     hint: "write # profile: wider in the first line, below which it is a date in UTC",
 };
 
-const VIRTUAL_NAMES: [&str; 6] = [
-    "Packet-Type",
-    "Packet-Src-IP-Address",
-    "Packet-Dst-IP-Address",
-    "Packet-Src-Port",
-    "Packet-Dst-Port",
-    "Client-IP-Address",
-];
-
 const OBEYED_NAMES: [&str; 5] = [
     "Auth-Type",
     "Response-Packet-Type",
@@ -52,12 +33,11 @@ const OBEYED_NAMES: [&str; 5] = [
 #[derive(Drop)]
 pub(crate) struct Watcher<'a> {
     dictionary: &'a Dictionary,
-    virtual_ids: Vec<AttrId>,
     obeyed_ids: Vec<AttrId>,
 }
 
-// The attributes of these names that a dictionary has.
-fn ids_of(
+/// The attributes of these names that a dictionary has.
+pub(crate) fn ids_of(
     alloc: Global,
     dictionary: &Dictionary,
     names: &[&str],
@@ -99,92 +79,12 @@ impl<'a> Watcher<'a> {
     ) -> Result<Watcher<'a>, AllocError> {
         Ok(Watcher {
             dictionary,
-            virtual_ids: ids_of(alloc, dictionary, &VIRTUAL_NAMES)?,
             obeyed_ids: ids_of(alloc, dictionary, &OBEYED_NAMES)?,
         })
     }
 
-    fn is_virtual(&self, list: List, id: AttrId) -> bool {
-        list == List::Request && has(&self.virtual_ids, id)
-    }
-
     fn is_date(&self, id: AttrId) -> bool {
         self.dictionary.form(id) == Some(Form::Date)
-    }
-
-    fn compares_virtual(&self, comparison: &Comparison) -> bool {
-        self.is_virtual(comparison.list, comparison.id)
-            || match comparison.comparand {
-                Comparand::Literal(_) => false,
-                Comparand::Instance(list, id) => self.is_virtual(list, id),
-            }
-    }
-
-    fn compares_meant_virtual(&self, comparison: &MeantComparison) -> bool {
-        self.is_virtual(comparison.list, comparison.id)
-            || match comparison.comparand {
-                MeantComparand::Literal(..) => false,
-                MeantComparand::Instance(list, id, _, _) => self.is_virtual(list, id),
-            }
-    }
-
-    #[cycle(asking)]
-    fn any_asks_virtual(&self, conds: &[Cond]) -> bool {
-        for cond in conds {
-            if self.asks_virtual(cond) {
-                return true;
-            }
-        }
-        false
-    }
-
-    #[cycle(asking)]
-    fn asks_virtual(&self, cond: &Cond) -> bool {
-        match cond {
-            Cond::Any(conds) | Cond::All(conds) => self.any_asks_virtual(conds.as_slice()),
-            Cond::Not(cond) => self.asks_virtual(cond.get()),
-            // What was captured is warned of where it is compared.
-            Cond::Last(_) | Cond::MatchGroup(_) | Cond::Captured(_) => false,
-            Cond::Present(list, id) | Cond::PresentSelected(list, id, _) => {
-                self.is_virtual(*list, *id)
-            }
-            Cond::Compare(comparison) => self.compares_virtual(comparison),
-            Cond::CompareMeant(comparison) => self.compares_meant_virtual(comparison),
-            Cond::Match(matching) | Cond::MatchText(matching) => {
-                self.is_virtual(matching.list, matching.id)
-            }
-            Cond::CompareTexts(comparison) => {
-                self.side_is_virtual(&comparison.left)
-                    || self.any_part_is_virtual(comparison.right.as_slice())
-            }
-        }
-    }
-
-    fn side_is_virtual(&self, side: &TextSide) -> bool {
-        match side {
-            TextSide::Text(parts) => self.any_part_is_virtual(parts.as_slice()),
-            TextSide::Instance(list, id, _) => self.is_virtual(*list, *id),
-        }
-    }
-
-    fn any_part_is_virtual(&self, parts: &[Part]) -> bool {
-        parts.iter().any(|part| match part {
-            // What was captured is warned of where it is compared.
-            Part::Text(_) | Part::Capture(_) => false,
-            Part::Instance(list, id) | Part::Meant(list, id, _) => self.is_virtual(*list, *id),
-        })
-    }
-
-    fn takes_virtual(&self, source: &Source) -> bool {
-        match source {
-            Source::Literal(_) | Source::Any => false,
-            Source::Text(_, parts) | Source::WiderText(_, _, parts) => {
-                self.any_part_is_virtual(parts.as_slice())
-            }
-            Source::Instance(list, id) | Source::Tagged(list, id, _, _, _) => {
-                self.is_virtual(*list, *id)
-            }
-        }
     }
 
     // Below the line of the wider profile a text has a date as a server prints it.
@@ -205,12 +105,6 @@ impl<'a> Watcher<'a> {
     fn add_lines(&self, found: &mut Vec<Finding>, lines: &[Line]) -> Result<(), AllocError> {
         for line in lines {
             let at = line.line;
-            add(
-                found,
-                self.takes_virtual(&line.source),
-                at,
-                VIRTUAL_ATTRIBUTE,
-            )?;
             add(found, self.prints_date(&line.source), at, PRINTED_DATE)?;
             add(found, self.is_obeyed(line), at, OBEYED_CONTROL)?;
         }
@@ -237,8 +131,6 @@ impl<'a> Watcher<'a> {
         branches: &[Branch],
     ) -> Result<(), AllocError> {
         for branch in branches {
-            let asks = self.asks_virtual(&branch.cond);
-            add(found, asks, branch.line, VIRTUAL_ATTRIBUTE)?;
             self.add_block(found, branch.block.as_slice())?;
         }
         Ok(())

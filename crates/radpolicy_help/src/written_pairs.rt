@@ -6,8 +6,12 @@ use crate::policy_tokens::token_of;
 #[derive(Clone, Copy)]
 pub(crate) struct WrittenPair<'a> {
     pub name: &'a [u8],
+    /// How many octets of the line are before the name.
+    pub name_offset: usize,
     /// The value, in its quotes if it has some.
     pub value: &'a [u8],
+    /// How many octets of the line are before the value.
+    pub value_offset: usize,
     /// How many octets of the line are before what follows the pair.
     pub end: usize,
 }
@@ -72,7 +76,13 @@ fn pair_at(line: &[u8], from: usize) -> WrittenPair<'_> {
         &[]
     };
     let end = filled_from(line, value_offset.saturating_add(value.len()));
-    WrittenPair { name, value, end }
+    WrittenPair {
+        name,
+        name_offset,
+        value,
+        value_offset,
+        end,
+    }
 }
 
 /// The pair of a line that a place is in, or right after: the first that has no further one before the place.

@@ -7,6 +7,7 @@ use avp_forms::Profile;
 use clap::error::ErrorKind;
 use clap::{Arg, ArgAction, ArgMatches};
 use radpolicy::Fault;
+use radpolicy_common::SecretValues;
 use radpolicy_import_policies::{LineEnds, Meaning, Stubs};
 use std::alloc::{AllocError, Global};
 use std::convert::AsStr;
@@ -21,7 +22,12 @@ const MODULE: &str = "module";
 
 const DICTIONARY: &str = "dict";
 
+// The older name of the next.
 const OWN_DICTIONARY: &str = "dictionary";
+
+const WRITE_DICTIONARY: &str = "write-dictionary";
+
+const FORCE: &str = "force";
 
 const STUB_FUNCTIONS: &str = "stub-functions";
 
@@ -42,6 +48,10 @@ const CHECK: &str = "check";
 const STRICT: &str = "strict";
 
 const JSON: &str = "json";
+
+const HIDE: &str = "hide";
+
+const SHOW_SECRETS: &str = "show-secrets";
 
 const CONFIGURATION: &str = "configuration";
 
@@ -67,12 +77,17 @@ pub struct Plan<'a> {
     pub initial: Option<&'a str>,
     /// Where those that the policy wants are written.
     pub initial_template: Option<&'a str>,
+    /// Whether files are replaced that the program did not write.
+    pub is_forced: bool,
     pub meaning: Meaning,
     pub profile: Profile,
     pub only_checks: bool,
     pub strict: bool,
     /// Whether the report is JSON, an object a line.
     pub is_json: bool,
+    /// Names of attributes whose values are hidden as well.
+    pub hidden: Vec<&'a str>,
+    pub secrets: SecretValues,
     /// A server's folder, or files.
     pub configuration: Vec<&'a str>,
 }
@@ -168,15 +183,21 @@ fn program<'a>(alloc: Global) -> Result<clap::Command<'a>, AllocError> {
         ))?
         .arg(valued(
             alloc,
-            OWN_DICTIONARY,
+            WRITE_DICTIONARY,
             "OUT",
             "Makes attributes of control of those of other lists, and of what expansions ask, and \
             writes their dictionary",
         ))?
+        .arg(valued(
+            alloc,
+            OWN_DICTIONARY,
+            "OUT",
+            "The same as --write-dictionary, by its older name",
+        ))?
         .arg(flag(
             alloc,
             STUB_FUNCTIONS,
-            "With --dictionary: takes the results of functions as given too",
+            "With --write-dictionary: takes the results of functions as given too",
         ))?
         .arg(output_option(alloc))?
         .arg(valued(
@@ -199,6 +220,11 @@ fn program<'a>(alloc: Global) -> Result<clap::Command<'a>, AllocError> {
         ))?
         .arg(flag(
             alloc,
+            FORCE,
+            "Replaces files that are there, though this program did not write them or they were changed since",
+        ))?
+        .arg(flag(
+            alloc,
             PLAIN,
             "Keeps conditions and updates as they are written",
         ))?
@@ -210,6 +236,17 @@ fn program<'a>(alloc: Global) -> Result<clap::Command<'a>, AllocError> {
         .arg(flag(alloc, CHECK, "Writes the report alone"))?
         .arg(flag(alloc, STRICT, "Ends with status 1 where a part is left out"))?
         .arg(flag(alloc, JSON, "Writes the report as JSON, an object a line"))?
+        .arg(repeated(
+            alloc,
+            HIDE,
+            "NAME",
+            "Hides an attribute's values as those of secret ones; may be given more than once",
+        ))?
+        .arg(flag(
+            alloc,
+            SHOW_SECRETS,
+            "Shows passwords, secrets and keys in the report and in comments",
+        ))?
         .arg(configuration_files(alloc))
 }
 
@@ -259,6 +296,25 @@ fn profile(found: &ArgMatches<'_>) -> Profile {
     }
 }
 
+fn secrets(found: &ArgMatches<'_>) -> SecretValues {
+    if found.get_flag(SHOW_SECRETS) {
+        SecretValues::Shown
+    } else {
+        SecretValues::Hidden
+    }
+}
+
+fn own_dictionary<'a>(found: &ArgMatches<'a>) -> Option<&'a str> {
+    found
+        .get_str(WRITE_DICTIONARY)
+        .or(found.get_str(OWN_DICTIONARY))
+}
+
+// Whether an option is given by both of its names.
+fn names_two_dictionaries(found: &ArgMatches<'_>) -> bool {
+    found.get_str(WRITE_DICTIONARY).is_some() && found.get_str(OWN_DICTIONARY).is_some()
+}
+
 // A policy is no part of a server, and has no section.
 fn plan_of<'a>(alloc: Global, found: &ArgMatches<'a>) -> Result<Plan<'a>, Fault>
     ensures { IfErr result IsWordFault }
@@ -269,17 +325,20 @@ fn plan_of<'a>(alloc: Global, found: &ArgMatches<'a>) -> Result<Plan<'a>, Fault>
         policy: found.get_str(POLICY),
         modules: all_of(alloc, found, MODULE)?,
         dictionaries: all_of(alloc, found, DICTIONARY)?,
-        own_dictionary: found.get_str(OWN_DICTIONARY),
+        own_dictionary: own_dictionary(found),
         stubs: stubs(found),
         output: found.get_str(OUTPUT),
         map: found.get_str(MAP),
         initial: found.get_str(INITIAL),
         initial_template: found.get_str(INITIAL_TEMPLATE),
+        is_forced: found.get_flag(FORCE),
         meaning: meaning(found),
         profile: profile(found),
         only_checks: found.get_flag(CHECK),
         strict: found.get_flag(STRICT),
         is_json: found.get_flag(JSON),
+        hidden: all_of(alloc, found, HIDE)?,
+        secrets: secrets(found),
         configuration: all_of(alloc, found, CONFIGURATION)?,
     };
     if plan.only_checks && plan.writes() {
@@ -289,6 +348,9 @@ fn plan_of<'a>(alloc: Global, found: &ArgMatches<'a>) -> Result<Plan<'a>, Fault>
         return Err(Fault::Usage);
     }
     if plan.stubs == Stubs::Functions && plan.own_dictionary.is_none() {
+        return Err(Fault::Usage);
+    }
+    if names_two_dictionaries(found) {
         return Err(Fault::Usage);
     }
     Ok(plan)
@@ -304,8 +366,10 @@ fn names_output(found: &ArgMatches<'_>) -> bool {
 fn refusal_of(found: &ArgMatches<'_>) -> &'static str {
     if found.get_flag(CHECK) && names_output(found) {
         "--check writes the report alone, so it goes without -o, --map and --initial-template\n"
-    } else if found.get_flag(STUB_FUNCTIONS) && found.get_str(OWN_DICTIONARY).is_none() {
-        "--stub-functions goes with --dictionary, which defines what is in their place\n"
+    } else if found.get_flag(STUB_FUNCTIONS) && own_dictionary(found).is_none() {
+        "--stub-functions goes with --write-dictionary, which defines what is in their place\n"
+    } else if names_two_dictionaries(found) {
+        "--dictionary is the older name of --write-dictionary: give one of them\n"
     } else {
         "a named policy is no part of a server: --policy goes without --server\n"
     }

@@ -1,10 +1,11 @@
 //! The report as JSON, an object a line.
 
-use crate::reports::ServerDifference;
+use crate::reports::{OthersReport, ServerDifference};
 use itoa::Buffer;
-use radpolicy_common::{Escaping, push_json_string};
-use radpolicy_import_conditions::{OtherAttribute, OtherSource};
+use radpolicy_common::{Escaping, LineBreaks, push_json_string, visible_text};
+use radpolicy_import_conditions::OtherSource;
 use radpolicy_import_policies::{Imported, LeftOut, Warning, origin_path};
+use radpolicy_import_texts::shown_expansion;
 use server_configuration::Configuration;
 use std::alloc::{AllocError, Global};
 
@@ -22,9 +23,11 @@ fn push_number(out: &mut Vec<u8>, before: u8, name: &str, number: usize) -> Resu
     out.extend_from_slice(digits.format(number).as_bytes())
 }
 
+// A text as the other report has it.
 fn push_text(out: &mut Vec<u8>, before: u8, name: &str, text: &[u8]) -> Result<(), AllocError> {
     push_name(out, before, name)?;
-    push_json_string(out, text, Escaping::Plain)
+    let shown = visible_text(*out.allocator(), text, LineBreaks::Escaped)?;
+    push_json_string(out, &shown, Escaping::Plain)
 }
 
 // How many statements are kept.
@@ -110,17 +113,14 @@ pub fn json_report(
 }
 
 /// The attributes of a dictionary that no line of the policy sets, and the expansions that they are in place of.
-pub fn json_others(
-    alloc: Global,
-    path: &str,
-    unset: &[&OtherAttribute],
-) -> Result<Vec<u8>, AllocError> {
+pub fn json_others(alloc: Global, report: &OthersReport<'_>) -> Result<Vec<u8>, AllocError> {
     let mut out = Vec::new(alloc);
-    for other in unset {
-        push_text(&mut out, b'{', "file", path.as_bytes())?;
+    for other in report.unset {
+        push_text(&mut out, b'{', "file", report.path.as_bytes())?;
         push_text(&mut out, b',', "unset", &other.own)?;
         if let OtherSource::Asked(text) = &other.source {
-            push_text(&mut out, b',', "expansion", text)?;
+            let shown = shown_expansion(alloc, report.hidden, text)?;
+            push_text(&mut out, b',', "expansion", &shown)?;
         }
         out.extend_from_slice(b"}\n")?;
     }

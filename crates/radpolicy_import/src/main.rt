@@ -3,6 +3,7 @@
 
 mod command_line;
 mod json_reports;
+mod outputs;
 mod reports;
 mod sources;
 
@@ -11,29 +12,40 @@ ghost use Rattle.avp_dict.specs.Lines.{HasDistinctNames};
 ghost use Rattle.radpolicy.specs.Faults.{IsPrintedAnywhere, IsPrintedWith};
 
 use crate::command_line::{Plan, help_text, read_words};
+use crate::outputs::write_made;
 use crate::reports::{
-    show_fault, show_initial_fault, show_initial_line, show_others, show_report, write_file,
-    write_policy,
+    OthersReport, refuse_value, show_fault, show_initial_fault, show_initial_line, show_others,
+    show_report,
 };
 use crate::sources::{
-    FIRST, Given, NamedFiles, first_file, main_file, read_given, system_dictionaries, with_main,
+    FIRST, Given, NamedFiles, first_file, main_file, name_files, read_given, system_dictionaries,
+    with_main, with_names,
 };
 use avp_dict::{Dictionary, FileSet};
 use avp_forms::Profile;
 use avp_unlang::Items;
 use radpolicy::{Fault, status};
-use radpolicy_common::{read_dictionary_set, refuse, refuse_early};
-use radpolicy_help::{Sources, refuse_explained, refuse_unread_explained, refuse_words_of};
+use radpolicy_common::{
+    Hiding, Redaction, SecretValues, named_attributes, read_dictionary_set, refuse, refuse_early,
+    refuse_outputs,
+};
+use radpolicy_help::{
+    Sources, refuse_explained, refuse_name, refuse_unread_explained, refuse_words_of,
+};
 use radpolicy_import_conditions::{KnownCodes, OtherAttribute, OtherSource};
 use radpolicy_import_policies::{
     ImportFault, Imported, Module, SectionKind, Settings, Statement, Wanted, add_initial,
-    import_statements, initial_template, keeps_names, origin_map, other_attributes,
-    other_dictionary, policy_of, section_of, statements_of, unset_attributes,
+    import_statements, keeps_names, other_attributes, other_dictionary, policy_of, section_of,
+    statements_of, unset_attributes,
 };
+use radpolicy_import_texts::SecretNames;
 use server_configuration::{Configuration, ConfigurationFault, SystemFiles, read_configuration};
 use std::alloc::{AllocError, Global};
 use std::io;
 use std::process::ExitCode;
+
+/// What the program is called in its faults and in the files that it writes.
+pub const PROGRAM: &str = "radpolicy-import";
 
 // The status where by --strict a part is left out.
 const LEFT_OUT: u8 = 1;
@@ -105,19 +117,31 @@ fn statements_meant(
 
 /// What is imported.
 #[derive(Clone, Copy)]
-struct Import<'a, 'p> {
-    plan: &'a Plan<'p>,
-    configuration: &'a Configuration,
+pub struct Import<'a, 'p, 'd> {
+    pub plan: &'a Plan<'p>,
+    /// The paths of the dictionaries.
+    pub dictionaries: &'a [&'d str],
+    pub configuration: &'a Configuration,
     modules: &'a [Module],
     // How many of the configuration's last items are pairs of initial lists.
     initial: usize,
+    /// The names beside which values are hidden; none where all is shown.
+    pub hidden: Option<&'a SecretNames<'a>>,
     statements: &'a [Statement],
+}
+
+/// What was read of the files that the words name.
+#[derive(Clone, Copy)]
+struct Read<'a> {
+    // The dictionaries.
+    files: &'a FileSet,
+    given: &'a Given,
 }
 
 // The policy of the statements.
 fn imported(
     alloc: Global,
-    import: &Import<'_, '_>,
+    import: &Import<'_, '_, '_>,
     dictionary: &Dictionary,
     others: &[OtherAttribute],
 ) -> Result<Imported, ImportFault> {
@@ -131,6 +155,7 @@ fn imported(
         codes: first_codes(import.plan, import.configuration),
         section: SectionKind::named(wanted(import.plan).section),
         initial: import.initial,
+        hidden: import.hidden,
     };
     match import_statements(alloc, configuration, dictionary, settings, statements) {
         // Should a statement not be one of the wider profile, lines that need it are left out.
@@ -146,51 +171,66 @@ fn imported(
 }
 
 fn refuse_section(rt: &HostRuntime, plan: &Plan<'_>) -> u8 {
-    let name = match plan.policy {
-        Some(name) => name,
-        None => plan.section.unwrap_or("authorize"),
-    };
-    let fault = Fault::OptionValue;
-    let _ = eprintln!(rt; "radpolicy: E02 {name}: {fault}");
-    status(&fault)
+    match plan.policy {
+        Some(name) => refuse_value(rt, name),
+        None => refuse_value(rt, plan.section.unwrap_or("authorize")),
+    }
 }
 
 /// What was made.
 #[derive(Clone, Copy)]
-struct Made<'a> {
-    imported: &'a Imported,
-    dictionary: &'a Dictionary,
-    others: &'a [OtherAttribute],
+pub struct Made<'a> {
+    pub imported: &'a Imported,
+    pub dictionary: &'a Dictionary,
+    pub others: &'a [OtherAttribute],
+    /// The dictionary of those, and which of them no line sets, where it is asked for.
+    pub own: Option<Own<'a>>,
 }
 
-// Writes where the policy's lines come from and the initial lists that it wants, as far as that is asked for.
-fn write_beside(rt: &HostRuntime, import: &Import<'_, '_>, made: Made<'_>) -> io::Result<()> {
-    let (alloc, configuration, imported) = (rt.alloc(), import.configuration, made.imported);
-    if let Some(path) = import.plan.map {
-        let map = origin_map(alloc, configuration, &imported.lines)?;
-        write_file(rt, path, &map)?;
-    }
-    if let Some(path) = import.plan.initial_template {
-        let (dictionary, others) = (made.dictionary, made.others);
-        let template = initial_template(alloc, configuration, dictionary, imported, others)?;
-        write_file(rt, path, &template)?;
-    }
-    Ok(())
+/// The dictionary of attributes of other lists.
+#[derive(Clone, Copy)]
+pub struct Own<'a> {
+    pub path: &'a str,
+    pub text: &'a [u8],
+    pub unset: &'a [&'a OtherAttribute],
 }
 
-fn write_made(rt: &HostRuntime, import: &Import<'_, '_>, made: Made<'_>) -> io::Result<()> {
-    write_beside(rt, import, made)?;
-    write_policy(rt, import.plan.output, &made.imported.text)
+// Writes what is to be known of what was made.
+fn report(rt: &HostRuntime, import: &Import<'_, '_, '_>, made: Made<'_>) -> Result<(), AllocError> {
+    let is_json = import.plan.is_json;
+    show_report(
+        rt,
+        is_json,
+        import.configuration,
+        made.dictionary,
+        made.imported,
+    )?;
+    let Some(own) = made.own else {
+        return Ok(());
+    };
+    let count = made
+        .others
+        .iter()
+        .filter(|other| !matches!(&other.source, OtherSource::Value(_)))
+        .count();
+    let others = OthersReport {
+        path: own.path,
+        count,
+        unset: own.unset,
+        hidden: import.hidden,
+    };
+    show_others(rt, is_json, &others)
 }
 
-// Writes the policy and the report, and gives the status.
-fn show(rt: &HostRuntime, import: &Import<'_, '_>, made: Made<'_>) -> u8 {
+// Writes what was made and the report, and gives the status.
+fn show(rt: &HostRuntime, import: &Import<'_, '_, '_>, made: Made<'_>) -> u8 {
     let plan = import.plan;
-    if !plan.only_checks && write_made(rt, import, made).is_err() {
-        return refuse_early(rt, &Fault::Write);
+    if !plan.only_checks
+        && let Err(fault) = write_made(rt, import, made)
+    {
+        return refuse_outputs(rt, PROGRAM, &fault);
     }
-    let (configuration, dictionary) = (import.configuration, made.dictionary);
-    if show_report(rt, plan.is_json, configuration, dictionary, made.imported).is_err() {
+    if report(rt, import, made).is_err() {
         return refuse_early(rt, &Fault::Memory);
     }
     if plan.strict && !made.imported.left_out.is_empty() {
@@ -205,53 +245,28 @@ fn read_named(
     rt: &HostRuntime,
     plan: &Plan<'_>,
 ) -> Result<Result<Configuration, ConfigurationFault>, AllocError> {
-    let system = SystemFiles::new(rt);
-    let first = first_file(rt.alloc(), plan)?;
+    let alloc = rt.alloc();
+    let first = first_file(alloc, plan)?;
     let files = NamedFiles {
-        system,
+        alloc,
+        system: SystemFiles::new(rt, &plan.configuration),
         first: &first,
     };
-    Ok(match main_file(rt.alloc(), &files, plan)? {
-        Some(main) => read_configuration(rt.alloc(), &files, &main),
-        None => read_configuration(rt.alloc(), &files, FIRST),
-    })
-}
-
-// Refuses the path of a dictionary whose name one of the others has, or by which names would not stay what they were.
-fn refuse_dictionary(rt: &HostRuntime, path: &str) -> u8 {
-    let fault = Fault::OptionValue;
-    let _ = eprintln!(rt; "radpolicy: E02 {path}: {fault}");
-    status(&fault)
-}
-
-// Writes the dictionary of other lists, then the policy and the report, and gives the status.
-fn show_with_others(
-    rt: &HostRuntime,
-    import: &Import<'_, '_>,
-    path: &str,
-    text: &[u8],
-    made: Made<'_>,
-    unset: &[&OtherAttribute],
-) -> u8 {
-    if !import.plan.only_checks && write_file(rt, path, text).is_err() {
-        return refuse_early(rt, &Fault::Write);
+    let main = main_file(alloc, &files, plan)?;
+    let path = main.as_ref().map_or(FIRST, |main| main.as_slice());
+    match read_configuration(alloc, &files, path) {
+        Ok(mut configuration) => {
+            name_files(alloc, &mut configuration.files)?;
+            Ok(Ok(configuration))
+        }
+        Err(fault) => Ok(Err(with_names(alloc, fault)?)),
     }
-    let status = show(rt, import, made);
-    let count = made
-        .others
-        .iter()
-        .filter(|other| !matches!(&other.source, OtherSource::Value(_)))
-        .count();
-    if show_others(rt, import.plan.is_json, path, count, unset).is_err() {
-        return refuse_early(rt, &Fault::Memory);
-    }
-    status
 }
 
 // The import with the attributes of other lists as attributes of control.
 fn import_others(
     rt: &HostRuntime,
-    import: &Import<'_, '_>,
+    import: &Import<'_, '_, '_>,
     path: &str,
     files: &FileSet,
     dictionary: &Dictionary,
@@ -269,15 +284,21 @@ fn import_others(
     )?;
     let text = other_dictionary(alloc, files, dictionary, &others)?;
     let all = with_main(alloc, path, &text, files)?;
+    // A name that one of the others has.
     if all.is_empty() || !all.has_distinct_names() {
-        return Ok(refuse_dictionary(rt, path));
+        return Ok(refuse_value(rt, path));
     }
     let own = match dictionary_of(alloc, &all) {
         Ok(own) => own,
-        Err(fault) => return Ok(refuse(rt, &fault, &all)),
+        // (what was to be written is no file that help could quote)
+        Err(fault) => {
+            let sources = Sources::of_files(&all, &[]);
+            return Ok(refuse_explained(rt, &fault, &all, &sources));
+        }
     };
+    // By it names would not stay what they were.
     if !keeps_names(dictionary, &own) {
-        return Ok(refuse_dictionary(rt, path));
+        return Ok(refuse_value(rt, path));
     }
     let imported = imported(alloc, import, &own, &others)?;
     let unset = unset_attributes(alloc, &own, &imported.policy, &others)?;
@@ -285,8 +306,13 @@ fn import_others(
         imported: &imported,
         dictionary: &own,
         others: &others,
+        own: Some(Own {
+            path,
+            text: &text,
+            unset: &unset,
+        }),
     };
-    Ok(show_with_others(rt, import, path, &text, made, &unset))
+    Ok(show(rt, import, made))
 }
 
 fn dictionary_of(alloc: Global, files: &FileSet) -> Result<Dictionary, Fault>
@@ -297,23 +323,34 @@ fn dictionary_of(alloc: Global, files: &FileSet) -> Result<Dictionary, Fault>
     Ok(Dictionary::read(alloc, files)?)
 }
 
+// What was made without a dictionary of attributes of other lists.
+fn show_alone<'a>(
+    rt: &HostRuntime,
+    import: &Import<'_, '_, '_>,
+    imported: &'a Imported,
+    dictionary: &'a Dictionary,
+) -> u8 {
+    let made = Made {
+        imported,
+        dictionary,
+        others: &[],
+        own: None,
+    };
+    show(rt, import, made)
+}
+
 fn import_alone(
     rt: &HostRuntime,
-    import: &Import<'_, '_>,
+    import: &Import<'_, '_, '_>,
     dictionary: &Dictionary,
 ) -> Result<u8, ImportFault> {
     let imported = imported(rt.alloc(), import, dictionary, &[])?;
-    let made = Made {
-        imported: &imported,
-        dictionary,
-        others: &[],
-    };
-    Ok(show(rt, import, made))
+    Ok(show_alone(rt, import, &imported, dictionary))
 }
 
 fn import_statements_meant(
     rt: &HostRuntime,
-    import: &Import<'_, '_>,
+    import: &Import<'_, '_, '_>,
     files: &FileSet,
     dictionary: &Dictionary,
 ) -> Result<u8, Fault>
@@ -357,12 +394,28 @@ fn add_pairs(
     }
 }
 
-fn import_by(rt: &HostRuntime, plan: &Plan<'_>, files: &FileSet, given: &Given) -> Result<u8, Fault>
-    requires first { 0 < length files.now }
-    requires distinct { HasDistinctNames files.now }
-    ensures { IfErr result (IsPrintedWith files.now) }
+// The names beside which values are hidden, if any are.
+fn secret_names<'a>(
+    alloc: Global,
+    redaction: &'a Redaction<'a>,
+    configuration: &Configuration,
+) -> Result<Option<SecretNames<'a>>, AllocError> {
+    match redaction.secrets() {
+        SecretValues::Hidden => Ok(Some(SecretNames::new(alloc, redaction, configuration)?)),
+        SecretValues::Shown => Ok(None),
+    }
+}
+
+// The import by a dictionary that is read, and by what is hidden.
+fn import_hiding(
+    rt: &HostRuntime,
+    plan: &Plan<'_>,
+    dictionaries: &[&str],
+    read: &Read<'_>,
+    redaction: &Redaction<'_>,
+) -> Result<u8, Fault>
+    ensures { IfErr result IsPrintedAnywhere }
 {
-    let dictionary = dictionary_of(rt.alloc(), files)?;
     let mut configuration = match read_named(rt, plan)? {
         Ok(configuration) => configuration,
         Err(fault) => {
@@ -375,17 +428,43 @@ fn import_by(rt: &HostRuntime, plan: &Plan<'_>, files: &FileSet, given: &Given) 
         Ok(None) => return Ok(refuse_section(rt, plan)),
         Err(fault) => return refuse_statements(rt, fault),
     };
-    let Some(initial) = add_pairs(rt, plan, given, &mut configuration) else {
+    let Some(initial) = add_pairs(rt, plan, read.given, &mut configuration) else {
         return Ok(status(&Fault::OptionValue));
     };
+    let names = secret_names(rt.alloc(), redaction, &configuration)?;
     let import = Import {
         plan,
+        dictionaries,
         configuration: &configuration,
-        modules: &given.modules,
+        modules: &read.given.modules,
         initial,
+        hidden: names.as_ref(),
         statements: statements.as_slice(),
     };
-    import_statements_meant(rt, &import, files, &dictionary)
+    import_statements_meant(rt, &import, read.files, redaction.dictionary())
+}
+
+fn import_by(
+    rt: &HostRuntime,
+    plan: &Plan<'_>,
+    dictionaries: &[&str],
+    read: &Read<'_>,
+) -> Result<u8, Fault>
+    requires first { 0 < length read.now.files.now }
+    requires distinct { HasDistinctNames read.now.files.now }
+    ensures { IfErr result (IsPrintedWith read.now.files.now) }
+{
+    let dictionary = dictionary_of(rt.alloc(), read.files)?;
+    let given = match named_attributes(rt.alloc(), &dictionary, &plan.hidden)? {
+        Ok(given) => given,
+        Err(name) => return Ok(refuse_name(rt, &dictionary, name)),
+    };
+    let hiding = Hiding {
+        secrets: plan.secrets,
+        given: &given,
+    };
+    let redaction = Redaction::new(rt.alloc(), &dictionary, hiding, &[])?;
+    import_hiding(rt, plan, dictionaries, read, &redaction)
 }
 
 // Refuses an import. A fault of the policy is in what was made, which is no file.
@@ -400,7 +479,7 @@ fn refuse_import(rt: &HostRuntime, dictionaries: &[&str], files: &FileSet, fault
     }
 }
 
-fn import_with<'p, 'd>(rt: &HostRuntime, plan: &Plan<'p>, dictionaries: &[&'d str]) -> u8 {
+fn import_with(rt: &HostRuntime, plan: &Plan<'_>, dictionaries: &[&str]) -> u8 {
     let given = match read_given(rt, plan) {
         Ok(given) => given,
         Err(unread) => return refuse_unread_explained(rt, unread),
@@ -409,7 +488,11 @@ fn import_with<'p, 'd>(rt: &HostRuntime, plan: &Plan<'p>, dictionaries: &[&'d st
         Ok(files) => files,
         Err(unread) => return refuse_unread_explained(rt, unread),
     };
-    match import_by(rt, plan, &files, &given) {
+    let read = Read {
+        files: &files,
+        given: &given,
+    };
+    match import_by(rt, plan, dictionaries, &read) {
         Ok(status) => status,
         Err(fault) => refuse_import(rt, dictionaries, &files, &fault),
     }
@@ -425,7 +508,7 @@ fn borrowed<'a>(alloc: Global, paths: &'a [String]) -> Result<Vec<&'a str>, Allo
 
 // The same by the dictionaries of the system.
 fn import_by_system(rt: &HostRuntime, plan: &Plan<'_>) -> Result<u8, AllocError> {
-    let paths = system_dictionaries(rt.alloc(), &SystemFiles::new(rt))?;
+    let paths = system_dictionaries(rt.alloc(), &SystemFiles::new(rt, &[]))?;
     let words = borrowed(rt.alloc(), &paths)?;
     Ok(import_with(rt, plan, &words))
 }
@@ -454,7 +537,7 @@ fn import_words(rt: &HostRuntime, words: &[String]) -> u8 {
     match read_words(rt.alloc(), words) {
         Ok(plan) => import_plan(rt, &plan),
         Err(Fault::Help) => show_help(rt, words),
-        Err(fault) => refuse_words_of(rt, &fault, "radpolicy-import", help_text(rt.alloc(), words)),
+        Err(fault) => refuse_words_of(rt, &fault, PROGRAM, help_text(rt.alloc(), words)),
     }
 }
 

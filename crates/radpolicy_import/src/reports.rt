@@ -3,13 +3,14 @@
 use crate::json_reports::{json_others, json_report};
 use crate::sources::FIRST;
 use avp_dict::Dictionary;
+use radpolicy::{Fault, status};
 use radpolicy_common::{LineBreaks, visible_text};
 use radpolicy_help::{Advice, findings};
 use radpolicy_import_conditions::{OtherAttribute, OtherSource, Reason};
 use radpolicy_import_policies::{Imported, LeftOut, Origin, Warning, push_origin};
+use radpolicy_import_texts::{SecretNames, shown_expansion};
 use server_configuration::{Configuration, ConfigurationFault};
 use std::alloc::{AllocError, Global};
-use std::{fs, io};
 
 // `FILE:LINE: reason: text` of a part that is left out, without line ends in it.
 fn push_part(
@@ -61,8 +62,10 @@ fn is_of_server(name: &str) -> bool {
         name,
         "absent-comparison"
             | "absent-source"
+            | "bare-name"
             | "filter-in-update"
             | "grouping"
+            | "module-comparison"
             | "obeyed-control"
             | "printed-date"
             | "several-instances"
@@ -153,27 +156,36 @@ pub fn show_report(
     Ok(())
 }
 
+/// What is to be known of the attributes that a dictionary defines.
+#[derive(Clone, Copy)]
+pub struct OthersReport<'a> {
+    /// Where the dictionary is written.
+    pub path: &'a str,
+    pub count: usize,
+    /// Those that no line sets.
+    pub unset: &'a [&'a OtherAttribute],
+    /// The names beside which values are hidden; none where all is shown.
+    pub hidden: Option<&'a SecretNames<'a>>,
+}
+
 // How many attributes the dictionary has, and those that no line sets.
-fn others_text(
-    alloc: Global,
-    path: &str,
-    count: usize,
-    unset: &[&OtherAttribute],
-) -> Result<Vec<u8>, AllocError> {
+fn others_text(alloc: Global, report: &OthersReport<'_>) -> Result<Vec<u8>, AllocError> {
+    let path = visible_text(alloc, report.path.as_bytes(), LineBreaks::Escaped)?;
+    let count = report.count;
+    let mut out = Vec::from_slice(alloc, &path)?;
     let noun = if count == 1 {
         "attribute"
     } else {
         "attributes"
     };
-    let head = format!(in alloc; "{path}: {count} {noun}\n")?;
-    let mut out = Vec::from_slice(alloc, head.as_bytes())?;
-    for other in unset {
-        let begin = format!(in alloc; "{path}: set by no line of the policy: &control:")?;
-        out.extend_from_slice(begin.as_bytes())?;
+    out.extend_from_slice(format!(in alloc; ": {count} {noun}\n")?.as_bytes())?;
+    for other in report.unset {
+        out.extend_from_slice(&path)?;
+        out.extend_from_slice(b": set by no line of the policy: &control:")?;
         out.extend_from_slice(&other.own)?;
         if let OtherSource::Asked(text) = &other.source {
             out.extend_from_slice(b" for %{")?;
-            out.extend_from_slice(&visible_text(alloc, text, LineBreaks::Escaped)?)?;
+            out.extend_from_slice(&shown_expansion(alloc, report.hidden, text)?)?;
             out.push(b'}')?;
         }
         out.push(b'\n')?;
@@ -185,14 +197,12 @@ fn others_text(
 pub fn show_others(
     rt: &HostRuntime,
     is_json: bool,
-    path: &str,
-    count: usize,
-    unset: &[&OtherAttribute],
+    report: &OthersReport<'_>,
 ) -> Result<(), AllocError> {
     let text = if is_json {
-        json_others(rt.alloc(), path, unset)?
+        json_others(rt.alloc(), report)?
     } else {
-        others_text(rt.alloc(), path, count, unset)?
+        others_text(rt.alloc(), report)?
     };
     let _ = rt.stderr().write_all(&text);
     Ok(())
@@ -233,29 +243,37 @@ pub fn show_fault(rt: &HostRuntime, fault: &ConfigurationFault) {
     };
 }
 
+// A line of standard error: what is before a text of the command line, the text, and what is behind it.
+fn tell(rt: &HostRuntime, before: &str, text: &str, behind: &str) {
+    let Ok(shown) = visible_text(rt.alloc(), text.as_bytes(), LineBreaks::Escaped) else {
+        return;
+    };
+    let mut out = rt.stderr();
+    let _ = out.write_all(before.as_bytes());
+    let _ = out.write_all(&shown);
+    let _ = out.write_all(behind.as_bytes());
+}
+
 /// Writes where and why the file of initial lists is not read.
 pub fn show_initial_fault(rt: &HostRuntime, path: &str, fault: &server_configuration::Fault) {
     let (line, kind) = (fault.line, fault.kind);
-    let _ = eprintln!(rt; "radpolicy-import: {path}:{line}: {kind}");
+    if let Ok(behind) = format!(in rt.alloc(); ":{line}: {kind}\n") {
+        tell(rt, "radpolicy-import: ", path, behind.as_str());
+    }
 }
 
 /// Writes which line of the file of initial lists is no pair of one, and why.
 pub fn show_initial_line(rt: &HostRuntime, path: &str, line: usize, reason: Reason) {
-    let _ = eprintln!(rt; "radpolicy-import: {path}:{line}: {reason}");
-}
-
-/// Writes beside the file, and then renames, so that a file is there whole or not at all.
-pub fn write_file(rt: &HostRuntime, path: &str, text: &[u8]) -> io::Result<()> {
-    let alloc = rt.alloc();
-    let beside = format!(in alloc; "{path}.new")?;
-    fs::write(rt, beside.as_str(), text)?;
-    fs::rename(rt, beside.as_str(), path)
-}
-
-/// Writes the policy to a file, or to standard output.
-pub fn write_policy(rt: &HostRuntime, output: Option<&str>, text: &[u8]) -> io::Result<()> {
-    match output {
-        Some(path) => write_file(rt, path, text),
-        None => rt.stdout().write_all(text),
+    if let Ok(behind) = format!(in rt.alloc(); ":{line}: {reason}\n") {
+        tell(rt, "radpolicy-import: ", path, behind.as_str());
     }
+}
+
+/// Refuses the value of an option.
+pub fn refuse_value(rt: &HostRuntime, word: &str) -> u8 {
+    let fault = Fault::OptionValue;
+    if let Ok(behind) = format!(in rt.alloc(); ": {fault}\n") {
+        tell(rt, "radpolicy: E02 ", word, behind.as_str());
+    }
+    status(&fault)
 }

@@ -6,7 +6,9 @@ use avp_lists::Octets;
 use radpolicy_common::{Unread, read_file};
 use radpolicy_import_conditions::ServerCode;
 use radpolicy_import_policies::{Module, ModuleAnswer};
-use server_configuration::{Files, SystemFiles, Unread as UnreadFile};
+use server_configuration::{
+    ConfigurationFault, Files, SourceFile, SystemFiles, Unread as UnreadFile,
+};
 use std::alloc::{AllocError, Global};
 
 /// Where Debian's packages have a server's dictionaries.
@@ -21,6 +23,7 @@ const OF_PACKAGE: &[u8] = b"/usr/share/radpolicy/dictionaries/";
 /// The system's files, and a first one that includes those that were named.
 #[derive(Clone, Copy)]
 pub struct NamedFiles<'a> {
+    pub alloc: Global,
     pub system: SystemFiles<'a>,
     pub first: &'a [u8],
 }
@@ -33,15 +36,18 @@ impl Files for NamedFiles<'_> {
         if path == FIRST {
             return Ok(Vec::from_slice(alloc, self.first)?);
         }
-        self.system.octets(alloc, path, limit)
+        self.system.octets(alloc, &path_meant(alloc, path)?, limit)
     }
 
     fn names(&self, alloc: Global, folder: &[u8]) -> Result<Vec<Vec<u8>>, UnreadFile> {
-        self.system.names(alloc, folder)
+        self.system.names(alloc, &path_meant(alloc, folder)?)
     }
 
     fn is_folder(&self, path: &[u8]) -> bool {
-        self.system.is_folder(path)
+        match path_meant(self.alloc, path) {
+            Ok(path) => self.system.is_folder(&path),
+            Err(_) => false,
+        }
     }
 }
 
@@ -65,15 +71,80 @@ pub fn main_file<F: Files>(
     Ok(Some(main))
 }
 
+// An octet of a path that would be read otherwise between quotes, and the letter that stands for it behind a NUL: no
+// path has that.
+const STAND_INS: [(u8, u8); 4] = [(b'"', b'q'), (b'\\', b'b'), (b'$', b'd'), (b'\n', b'n')];
+
+fn push_written(text: &mut Vec<u8>, octet: u8) -> Result<(), AllocError> {
+    match STAND_INS.iter().find(|(meant, _)| *meant == octet) {
+        Some((_, letter)) => {
+            text.push(0)?;
+            Ok(text.push(*letter)?)
+        }
+        None => Ok(text.push(octet)?),
+    }
+}
+
+fn push_include(text: &mut Vec<u8>, path: &str) -> Result<(), AllocError> {
+    text.extend_from_slice(b"$INCLUDE \"")?;
+    for octet in path.as_bytes() {
+        push_written(text, *octet)?;
+    }
+    text.extend_from_slice(b"\"\n")
+}
+
 /// What the first file holds, where files are named.
 pub fn first_file(alloc: Global, plan: &Plan<'_>) -> Result<Vec<u8>, AllocError> {
     let mut text = Vec::new(alloc);
     for path in &plan.configuration {
-        text.extend_from_slice(b"$INCLUDE \"")?;
-        text.extend_from_slice(path.as_bytes())?;
-        text.extend_from_slice(b"\"\n")?;
+        push_include(&mut text, path)?;
     }
     Ok(text)
+}
+
+fn octet_meant(letter: u8) -> u8 {
+    match STAND_INS.iter().find(|(_, written)| *written == letter) {
+        Some((meant, _)) => *meant,
+        None => letter,
+    }
+}
+
+/// The path that is meant by one in the first file, or by one beside it.
+pub fn path_meant(alloc: Global, written: &[u8]) -> Result<Vec<u8>, AllocError> {
+    let mut path = Vec::new(alloc);
+    let mut rest = written;
+    while let [octet, after @ ..] = rest {
+        rest = after;
+        match (*octet, after) {
+            (0, [letter, others @ ..]) => {
+                path.push(octet_meant(*letter))?;
+                rest = others;
+            }
+            _ => path.push(*octet)?,
+        }
+    }
+    Ok(path)
+}
+
+/// Gives the files of a configuration the paths that are meant.
+pub fn name_files(alloc: Global, files: &mut [SourceFile]) -> Result<(), AllocError> {
+    for file in files {
+        file.path = path_meant(alloc, &file.path)?;
+    }
+    Ok(())
+}
+
+/// The same fault with the paths that are meant.
+pub fn with_names(
+    alloc: Global,
+    fault: ConfigurationFault,
+) -> Result<ConfigurationFault, AllocError> {
+    let mut fault = fault;
+    fault.file.path = path_meant(alloc, &fault.file.path)?;
+    if let Some(unread) = &fault.unread {
+        fault.unread = Some(path_meant(alloc, unread)?);
+    }
+    Ok(fault)
 }
 
 // The path of a dictionary in a folder.
@@ -125,6 +196,20 @@ pub fn system_dictionaries<F: Files>(alloc: Global, files: &F) -> Result<Vec<Str
     dictionaries_in(alloc, files, OF_PACKAGE)
 }
 
+// The name of a module and what stands for its calls: a word without `=` names one whose calls do nothing.
+fn module_in(word: &str) -> (&str, &str) {
+    word.split_once('=').unwrap_or((word, "noop"))
+}
+
+/// The path of the policy that stands for the calls of a module, if it is no code.
+pub fn policy_path(word: &str) -> Option<&str> {
+    let (_, answer) = module_in(word);
+    match ServerCode::named(answer.as_bytes()) {
+        Some(_) => None,
+        None => Some(answer),
+    }
+}
+
 // What stands for the calls of a module.
 fn read_answer<'a>(rt: &HostRuntime, word: &'a str) -> Result<ModuleAnswer, Unread<'a>> {
     match ServerCode::named(word.as_bytes()) {
@@ -137,11 +222,11 @@ fn read_answer<'a>(rt: &HostRuntime, word: &'a str) -> Result<ModuleAnswer, Unre
     }
 }
 
-// What stands for the calls of modules. A word without `=` names a module whose calls do nothing.
+// What stands for the calls of modules.
 fn read_modules<'a>(rt: &HostRuntime, plan: &Plan<'a>) -> Result<Vec<Module>, Unread<'a>> {
     let mut modules = Vec::new(rt.alloc());
     for word in &plan.modules {
-        let (name, answer) = word.split_once('=').unwrap_or((word, "noop"));
+        let (name, answer) = module_in(word);
         let answer = read_answer(rt, answer)?;
         let name = Vec::from_slice(rt.alloc(), name.as_bytes())?;
         modules.push(Module { name, answer })?;

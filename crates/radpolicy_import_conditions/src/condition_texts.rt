@@ -10,6 +10,7 @@ use crate::reasons::{Reason, Refusal};
 use crate::references::{
     Names, Reference, has_texts, is_address, is_number, kind_of, reference_of,
 };
+use crate::right_words::is_reference;
 use crate::server_codes::{KnownCodes, ServerCode};
 use crate::server_conditions::ServerCondition;
 use crate::text_sides::text_parts;
@@ -97,9 +98,22 @@ fn constant(word: &[u8]) -> Option<bool> {
     }
 }
 
+// Whether a text that is written out is false by itself.
+fn is_false(text: &[u8]) -> bool {
+    text.is_empty() || text == b"0".as_slice() || text == b"false".as_slice()
+}
+
 impl<'a> ConditionReader<'a> {
-    /// The attribute that an operand is, if it is one. A bare word is one only with `&`, or where it is not the right
-    /// side of a comparison.
+    // The attribute that a word without `&` is on the right of a comparison, if a server takes it for one.
+    fn right_attribute<'b>(&self, word: &'b [u8]) -> Result<Option<Reference<'b>>, Reason> {
+        if !is_reference(self.names.dictionary, word) {
+            return Ok(None);
+        }
+        Ok(Some(reference_of(&self.names, word)?))
+    }
+
+    /// The attribute that an operand is, if it is one. A bare word without `&` is one on the right where a server takes
+    /// it for a reference, and on the left, where words are taken, as far as policies have it.
     pub fn attribute<'b>(
         &self,
         operand: Operand<'b>,
@@ -114,7 +128,7 @@ impl<'a> ConditionReader<'a> {
                     return Ok(Some(reference_of(&self.names, name)?));
                 }
                 if !takes_words {
-                    return Ok(None);
+                    return self.right_attribute(operand.octets);
                 }
                 match reference_of(&self.names, operand.octets) {
                     Ok(found) => Ok(Some(found)),
@@ -505,6 +519,14 @@ impl<'a> ConditionReader<'a> {
 
     // ---- comparisons
 
+    // Whether what is on the left of a comparison is a text.
+    fn compares_text(&self, left: Operand<'_>) -> Result<bool, Reason> {
+        match self.attribute(left, true)? {
+            Some(found) => Ok(self.is_text(&found)),
+            None => Ok(true),
+        }
+    }
+
     // The condition that a comparison of two operands is.
     fn compared(
         &self,
@@ -512,6 +534,9 @@ impl<'a> ConditionReader<'a> {
         relation: Relation,
         right: Operand<'_>,
     ) -> Result<ServerCondition, Refusal> {
+        if right.is_digits() && self.compares_text(left)? {
+            return Err(Refusal::LeftOut(Reason::TextOfOctets));
+        }
         if let Some(chosen) = self.chosen_text(left)? {
             return self.chosen_compared(&chosen, relation, right);
         }
@@ -675,7 +700,7 @@ impl<'a> ConditionReader<'a> {
             return Ok(ServerCondition::Present(found.list, found.named.id));
         }
         let octets = text_octets(self.alloc, &self.names, operand.quote, operand.octets)?;
-        Ok(ServerCondition::Constant(!octets.is_empty()))
+        Ok(ServerCondition::Constant(!is_false(&octets)))
     }
 
     // An operand by itself, or a comparison, and what follows it.

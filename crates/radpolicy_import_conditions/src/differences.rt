@@ -22,6 +22,17 @@ pub enum Difference {
     /// Where both texts that are compared are digits, which may have a sign before them.
     #[error("on a server texts of digits are numbers of 64 bits, also behind a -")]
     TextNumbers,
+    /// A string that is put in.
+    #[error("on a server what is put in has a backslash before each quote, backslash and octet that is not printed")]
+    EscapedOctets,
+    #[error("on a server an empty text with a tag is not sent, and here its tag is")]
+    EmptyTagged,
+    /// Where the request has one in fewer octets than it is written with.
+    #[error("on a server prefixes are compared by value, and here by their octets")]
+    ShortPrefix,
+    /// Printed, put into a text or searched.
+    #[error("on a server an IPv6 address of 96 zero bits and an IPv4 address has dots, as ::10.1.2.3")]
+    DottedAddress,
     /// As `%{explode:..}` does.
     #[error("on a server the expansion changes attributes")]
     ChangedList,
@@ -37,6 +48,10 @@ impl Difference {
             Difference::TaggedOctets => Some("tagged-octets"),
             Difference::DateZone => Some("date-zone"),
             Difference::TextNumbers => Some("text-numbers"),
+            Difference::EscapedOctets => Some("escaped-octets"),
+            Difference::EmptyTagged => Some("empty-tagged"),
+            Difference::ShortPrefix => Some("short-prefix"),
+            Difference::DottedAddress => Some("dotted-address"),
             Difference::ChangedList => Some("changed-list"),
         }
     }

@@ -42,7 +42,11 @@ pub struct UpdateLine {
     pub may_fail: bool,
     /// What it is of, where the attribute's values have tags.
     pub tagged: Option<TaggedLine>,
-    /// What a server does otherwise with it.
+    /// Whether a string is put into octets, which a server puts in as it prints it.
+    pub is_escaped: bool,
+    /// Whether an IPv6 address or prefix is put into it.
+    pub prints_address: bool,
+    /// What else a server does otherwise with it.
     pub difference: Option<Difference>,
 }
 
@@ -55,6 +59,8 @@ fn plain_line(text: Vec<u8>) -> UpdateLine {
         captures: false,
         may_fail: false,
         tagged: None,
+        is_escaped: false,
+        prints_address: false,
         difference: None,
     }
 }
@@ -86,8 +92,8 @@ fn sign(operator: Operator) -> Option<&'static [u8]> {
     }
 }
 
-// Whether an update adds the value to those of its list, or sets it.
-fn adds(operator: Operator) -> bool {
+/// Whether an update adds the value to those of its list, or sets it.
+pub(crate) fn adds(operator: Operator) -> bool {
     matches!(
         operator,
         Operator::Equals | Operator::Set | Operator::Add | Operator::Prepend
@@ -273,8 +279,8 @@ impl<'a> LineReader<'a> {
         target: &Reference<'_>,
         word: &[u8],
     ) -> Result<UpdateLine, Refusal> {
-        let found = reference_of(&self.names, word)?;
         let dictionary = self.names.dictionary;
+        let found = self.meant_source(target, reference_of(&self.names, word)?);
         if !has_texts(dictionary, found.named) {
             return Err(Refusal::LeftOut(Reason::OctetsHere));
         }
@@ -337,6 +343,10 @@ impl<'a> LineReader<'a> {
             is_wider: put_in.captures || put_in.meanings,
             captures: put_in.captures,
             may_fail: self.may_fail(&target, put_in),
+            is_escaped: put_in.strings
+                && !target.named.raw
+                && kind_of(self.names.dictionary, target.named) == Kind::Bytes,
+            prints_address: put_in.addresses,
             difference: self.cut_when_sent(target.list, target.named, operator, put_in),
             ..plain_line(text)
         })
@@ -417,6 +427,18 @@ impl<'a> LineReader<'a> {
         Ok(true)
     }
 
+    // A value that is written out, as the wider profile has what it is to a server. False where it is none.
+    fn push_meant(&self, out: &mut Vec<u8>, name: &[u8], value: &Text) -> Result<bool, Refusal> {
+        match self.hexadecimal_number(name, value)? {
+            Some(number) => {
+                let digits = format!(in self.alloc; "{number}")?;
+                out.extend_from_slice(digits.as_bytes())?;
+                Ok(true)
+            }
+            None => self.push_written(out, value),
+        }
+    }
+
     // The attribute that a line copies, with its `&`, where both are IPv6 addresses or the like, whose octets are the
     // same.
     fn copied(&self, name: &[u8], value: &Text) -> Result<Option<Vec<u8>>, Refusal> {
@@ -461,8 +483,8 @@ impl<'a> LineReader<'a> {
         }
     }
 
-    // The form of its values, where it is not given by its number.
-    fn form(&self, name: &[u8]) -> Option<Form> {
+    /// The form of an attribute's values, where it is not given by its number.
+    pub(crate) fn form(&self, name: &[u8]) -> Option<Form> {
         let named = self.attribute(name)?;
         if named.raw {
             return None;
@@ -513,6 +535,7 @@ impl<'a> LineReader<'a> {
         Ok(Some(UpdateLine {
             is_wider: put_in.captures || put_in.meanings,
             captures: put_in.captures,
+            prints_address: put_in.addresses,
             difference: self.filled_difference(name, operator, put_in),
             ..plain_line(text)
         }))
@@ -621,14 +644,13 @@ impl<'a> LineReader<'a> {
             let line = self.copying_line(text, source)?;
             return Ok(Some(line));
         }
-        if !self.push_written(&mut text, value)? {
+        if !self.push_meant(&mut text, name, value)? {
             return Ok(None);
         }
-        let is_date = self.form(name) == Some(Form::Date);
         Ok(Some(UpdateLine {
             is_wider: true,
             tagged: self.tagged_by_name(name),
-            difference: is_date.then_some(Difference::DateZone),
+            difference: self.written_difference(name, operator, value),
             ..plain_line(text)
         }))
     }

@@ -32,6 +32,11 @@ impl Operand<'_> {
         }
     }
 
+    /// Whether it is octets, as digits behind `0x`.
+    pub(crate) fn is_digits(&self) -> bool {
+        self.quote == Quote::Bare && self.octets.starts_with(b"0x")
+    }
+
     /// Whether it is the empty text.
     pub(crate) fn is_empty(&self) -> bool {
         self.is_text() && self.octets.is_empty()
@@ -94,6 +99,7 @@ pub(crate) fn next_operand(text: &[u8]) -> Result<(Operand<'_>, &[u8]), Reason> 
         [b'`', ..] => return Err(Reason::Command),
         [b'/', ..] => return Err(Reason::RegularExpression),
         [b'<', ..] => return Err(Reason::Cast),
+        [b'%', b'{', ..] => return Err(Reason::BareExpansion),
         [] => return Err(Reason::Condition),
         [first, ..] if ends_word(*first) && *first != b'&' => return Err(Reason::Condition),
         _ => Quote::Bare,

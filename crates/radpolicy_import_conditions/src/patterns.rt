@@ -1,6 +1,7 @@
 //! Regular expressions, as a server has them.
 
 use crate::reasons::Reason;
+use crate::repetitions::repeats_nothing;
 use crate::server_conditions::ServerCondition;
 use avp_lists::Octets;
 use avp_patterns::PatternFlags;
@@ -16,6 +17,13 @@ pub enum PatternDifference {
     WordEdge,
     #[error("on a server [, &&, -- and ~~ are signs by themselves in a class")]
     InClass,
+    #[error("on a server [[:<:]] and [[:>:]] are the edges of a word")]
+    EdgeClass,
+    #[error("on a server braces with a blank in them are text")]
+    BlankInBraces,
+    /// It is tried once more with nothing there, which ends the repetition.
+    #[error("on a server what is repeated may be empty, which ends the repetition and changes what is captured")]
+    RepeatedNothing,
     #[error("on a server the flags u, R and x mean something else")]
     Flags,
     #[error("on a server \\x{{80}} and above are one octet each")]
@@ -116,16 +124,16 @@ pub(crate) fn push_pattern(
     Ok(())
 }
 
-// A part of a regular expression: what it is to a server, how long it is, and whether what follows is in a class.
+/// A part of a regular expression: what it is to a server, how long it is, and whether what follows is in a class.
 #[derive(Clone, Copy)]
-struct Piece {
-    difference: Option<PatternDifference>,
-    length: usize,
-    is_in_class: bool,
+pub(crate) struct Piece {
+    pub(crate) difference: Option<PatternDifference>,
+    pub(crate) length: usize,
+    pub(crate) is_in_class: bool,
 }
 
-// How far it is behind an octet; to the end where there is none.
-fn length_past(text: &[u8], closing: u8) -> usize {
+/// How far it is behind an octet; to the end where there is none.
+pub(crate) fn length_past(text: &[u8], closing: u8) -> usize {
     match text.iter().position(|octet| *octet == closing) {
         Some(place) => place.saturating_add(1),
         None => text.len(),
@@ -165,6 +173,7 @@ fn escaped(text: &[u8], is_in_class: bool) -> Piece {
 fn in_class(text: &[u8]) -> Piece {
     let (difference, length, is_in_class) = match text {
         [b']', ..] => (None, 1, false),
+        [b'[', b':', b'<' | b'>', b':', b']', ..] => (Some(PatternDifference::EdgeClass), 5, true),
         [b'[', b':', name @ ..] => (None, length_past(name, b']').saturating_add(2), true),
         [b'[', ..] => (Some(PatternDifference::InClass), 1, true),
         [b'&', b'&', ..] | [b'-', b'-', ..] | [b'~', b'~', ..] => {
@@ -200,10 +209,18 @@ fn flags_changed(text: &[u8]) -> Option<PatternDifference> {
     None
 }
 
+// What begins with a `{`.
+fn braces(text: &[u8]) -> Option<PatternDifference> {
+    let (counts, _) = text.split_at_checked(length_past(text, b'}'))?;
+    let has_blank = counts.iter().any(|octet| matches!(*octet, b' ' | b'\t'));
+    has_blank.then_some(PatternDifference::BlankInBraces)
+}
+
 // What begins with a part that is neither escaped nor of a class.
 fn outside(text: &[u8], is_multi_line: bool) -> Piece {
     let (difference, length, is_in_class) = match text {
         [b'[', ..] => (None, class_start(text), true),
+        [b'{', ..] => (braces(text), 1, false),
         [b'(', b'?', b'P' | b'<', ..] => (None, 3, false),
         [b'(', b'?', flags @ ..] => (flags_changed(flags), 2, false),
         [b'*' | b'+' | b'?' | b'}', b'+', ..] => (Some(PatternDifference::Possessive), 2, false),
@@ -218,7 +235,8 @@ fn outside(text: &[u8], is_multi_line: bool) -> Piece {
     }
 }
 
-fn next_piece(text: &[u8], is_in_class: bool, is_multi_line: bool) -> Piece {
+/// The part that a text begins with.
+pub(crate) fn next_piece(text: &[u8], is_in_class: bool, is_multi_line: bool) -> Piece {
     match text {
         [b'\\', ..] => escaped(text, is_in_class),
         [b'%', ..] => Piece {
@@ -263,6 +281,21 @@ fn add_differences_of(
     Ok(())
 }
 
+// The same, and what of it is repeated otherwise.
+fn add_differences_in(
+    found: &mut Vec<PatternDifference>,
+    text: &[u8],
+    flags: PatternFlags,
+) -> Result<(), AllocError> {
+    add_differences_of(found, text, flags)?;
+    let alloc = *found.allocator();
+    let is_otherwise = repeats_nothing(alloc, text)?;
+    add_difference(
+        found,
+        is_otherwise.then_some(PatternDifference::RepeatedNothing),
+    )
+}
+
 /// Adds how a server takes parts of a condition's regular expressions otherwise, each once.
 #[cycle(finding)]
 pub fn add_differences(
@@ -271,10 +304,10 @@ pub fn add_differences(
 ) -> Result<(), AllocError> {
     match condition {
         ServerCondition::Match(matching) | ServerCondition::MatchText(matching) => {
-            add_differences_of(found, matching.pattern.as_slice(), matching.flags)
+            add_differences_in(found, matching.pattern.as_slice(), matching.flags)
         }
         ServerCondition::MatchGroup(matching) => {
-            add_differences_of(found, matching.pattern.as_slice(), matching.flags)
+            add_differences_in(found, matching.pattern.as_slice(), matching.flags)
         }
         ServerCondition::Not(inner) => add_differences(found, inner),
         ServerCondition::And(first, next) | ServerCondition::Or(first, next) => {

@@ -37,6 +37,9 @@ pub enum Reason {
     ChangedList,
     #[error("an expansion into a value that is no text")]
     ExpandedValue,
+    /// A server takes it as the text that is written.
+    #[error("an expansion without quotes")]
+    BareExpansion,
     /// A server compares such texts as numbers.
     #[error("an expansion compared with a number")]
     ExpandedNumber,
@@ -57,6 +60,9 @@ pub enum Reason {
     Cast,
     #[error("a comparison of two texts")]
     TwoTexts,
+    /// A server compares the octets of the digits.
+    #[error("a text compared with octets")]
+    TextOfOctets,
     #[error("a code that policies do not have")]
     OtherCode,
     /// In the block of a module's call, as `{ ok = return }`.
@@ -89,6 +95,9 @@ pub enum Reason {
     /// A reference to the configuration, as `${name}`.
     #[error("a reference to the configuration: {0}")]
     Reference(ReferenceFaultKind),
+    /// `$ENV{NAME}`, whose value a server takes when it starts.
+    #[error("a variable of the server's environment")]
+    Environment,
     /// What [`avp_unlang::read_policy`] says of it.
     #[error("{0}")]
     Refused(PolicyKind),

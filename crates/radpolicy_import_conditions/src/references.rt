@@ -4,7 +4,7 @@ use crate::other_attributes::{OtherAttribute, OtherSource};
 use crate::other_lists::{OtherList, ServerList};
 use crate::reasons::Reason;
 use avp_dict::{Dictionary, Form, Kind, Named, is_container};
-use avp_lists::List;
+use avp_lists::{AttrId, List};
 use std::alloc::AllocError;
 
 /// How the name of an attribute is written in a policy.
@@ -208,6 +208,14 @@ pub(crate) fn has_texts(dictionary: &Dictionary, named: Named) -> bool {
         None | Some(Form::AsTyped | Form::Date) => true,
         Some(_) => named.raw,
     }
+}
+
+/// Whether an attribute's values are IPv6 addresses or prefixes.
+pub(crate) fn is_ipv6(dictionary: &Dictionary, id: AttrId) -> bool {
+    matches!(
+        dictionary.form(id),
+        Some(Form::Ipv6Address | Form::Ipv6Prefix)
+    )
 }
 
 /// The type of an attribute's values; octets where the dictionary has none.

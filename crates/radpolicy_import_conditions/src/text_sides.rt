@@ -2,9 +2,10 @@
 
 use crate::operands::Operand;
 use crate::reasons::{Reason, Refusal};
-use crate::references::{Names, Reference};
+use crate::references::{Names, Reference, is_ipv6};
 use crate::server_conditions::ServerCondition;
 use crate::texts::{Part as ServerPart, next_part, text_octets};
+use avp_dict::Dictionary;
 use avp_lists::{Octets, Selection};
 use avp_unlang::{Items, Part, Parts, TextComparison, TextSide};
 use std::alloc::{AllocError, Global};
@@ -90,6 +91,36 @@ fn may_be_numbers(comparison: &TextComparison) -> bool {
             may_be_number(parts.as_slice()) && may_be_number(comparison.right.as_slice())
         }
         TextSide::Instance(..) => false,
+    }
+}
+
+fn has_address(dictionary: &Dictionary, parts: &[Part]) -> bool {
+    parts.iter().any(|part| match part {
+        Part::Meant(_, id, _) => is_ipv6(dictionary, *id),
+        _ => false,
+    })
+}
+
+fn compares_address(dictionary: &Dictionary, comparison: &TextComparison) -> bool {
+    let is_left = match &comparison.left {
+        TextSide::Text(parts) => has_address(dictionary, parts.as_slice()),
+        TextSide::Instance(..) => false,
+    };
+    is_left || has_address(dictionary, comparison.right.as_slice())
+}
+
+/// Whether a condition prints an IPv6 address or prefix, to search it or to compare it as a text.
+pub fn prints_address(dictionary: &Dictionary, condition: &ServerCondition) -> bool {
+    match condition {
+        ServerCondition::Match(matching) | ServerCondition::MatchText(matching) => {
+            is_ipv6(dictionary, matching.id)
+        }
+        ServerCondition::CompareTexts(comparison) => compares_address(dictionary, comparison),
+        ServerCondition::Not(inner) => prints_address(dictionary, inner),
+        ServerCondition::And(first, next) | ServerCondition::Or(first, next) => {
+            prints_address(dictionary, first) || prints_address(dictionary, next)
+        }
+        _ => false,
     }
 }
 

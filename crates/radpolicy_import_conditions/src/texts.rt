@@ -6,9 +6,10 @@ use crate::expansions::closing_brace;
 use crate::lengths::{LONGEST_TEXT, longest_text};
 use crate::reasons::{Reason, Refusal};
 use crate::references::{
-    Names, Reference, Spelling, has_texts, list_name, push_spelling, reads_digits, reference_of,
+    Names, Reference, Spelling, has_texts, is_ipv6, kind_of, list_name, push_spelling,
+    reads_digits, reference_of,
 };
-use avp_dict::Dictionary;
+use avp_dict::{Dictionary, Kind};
 use avp_lists::List;
 use server_configuration::{Quote, Text};
 use std::alloc::{AllocError, Global};
@@ -41,6 +42,10 @@ pub(crate) struct PutIn {
     pub(crate) captures: bool,
     /// Whether the plain profile puts in octets where a server, and the wider one, has what they mean.
     pub(crate) meanings: bool,
+    /// Whether a string is put in, which may be any octets.
+    pub(crate) strings: bool,
+    /// Whether an IPv6 address or prefix is put in.
+    pub(crate) addresses: bool,
     /// How many octets of it are written out.
     pub(crate) octets: usize,
     /// How many octets it may have at most.
@@ -54,6 +59,8 @@ impl PutIn {
             attributes: false,
             captures: false,
             meanings: false,
+            strings: false,
+            addresses: false,
             octets: 0,
             most: 0,
             beginning: Beginning::Other,
@@ -74,9 +81,13 @@ fn escaped(text: &[u8]) -> (u8, &[u8])
         [b'n', rest @ ..] => (b'\n', rest),
         [b'r', rest @ ..] => (b'\r', rest),
         [b't', rest @ ..] => (b'\t', rest),
-        [mark @ (b'"' | b'\'' | b'\\'), rest @ ..] => (*mark, rest),
+        [mark @ (b'"' | b'\\'), rest @ ..] => (*mark, rest),
         [a @ b'0'..=b'3', b @ b'0'..=b'7', c @ b'0'..=b'7', rest @ ..] => {
             ((*a - b'0') * 64 + (*b - b'0') * 8 + (*c - b'0'), rest)
+        }
+        // Of a number that is too large for an octet the lower eight bits count.
+        [a @ b'4'..=b'7', b @ b'0'..=b'7', c @ b'0'..=b'7', rest @ ..] => {
+            ((*a - b'4') * 64 + (*b - b'0') * 8 + (*c - b'0'), rest)
         }
         _ => (b'\\', text),
     }
@@ -130,6 +141,10 @@ pub(crate) fn next_part<'a>(
         [] => Ok(None),
         [b'\\', rest @ ..] => {
             let (octet, rest) = escaped(rest);
+            // To a server a `\` that is left escapes the `%`.
+            if octet == b'\\' && matches!(rest, [b'%', ..]) {
+                return Err(Reason::Expansion);
+            }
             Ok(Some((Part::Octet(octet), rest)))
         }
         [b'%', rest @ ..] => {
@@ -240,6 +255,9 @@ fn push_part(
             Ok(PutIn {
                 attributes: true,
                 meanings: put_in.meanings || !has_texts(names.dictionary, reference.named),
+                strings: put_in.strings || kind_of(names.dictionary, reference.named) == Kind::Text,
+                addresses: put_in.addresses
+                    || !reference.named.raw && is_ipv6(names.dictionary, reference.named.id),
                 most: put_in
                     .most
                     .saturating_add(longest_text(names.dictionary, reference.named)),
@@ -357,7 +375,7 @@ pub(crate) fn single_octets(alloc: Global, text: &[u8]) -> Result<Vec<u8>, Alloc
 }
 
 /// Whether a word has an expansion.
-pub(crate) fn has_expansion(word: &[u8]) -> bool {
+pub fn has_expansion(word: &[u8]) -> bool {
     word.windows(2).any(|pair| pair == b"%{".as_slice())
 }
 

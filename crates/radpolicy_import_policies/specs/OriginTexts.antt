@@ -1,8 +1,10 @@
 -- The text of where a policy's lines come from.
-use Rattle.std.specs.Prelude.{ℕ, ◌≡◌, ◌+◌, ◌==◌, ◌||◌, ◌++◌, nat_lt, List, [], ◌∷◌, map, Bool, take, drop, length, slice_get, codes, decimal, if◌then◌else◌}
+use Rattle.std.specs.Prelude.{ℕ, ◌≡◌, ◌+◌, ◌==◌, ◌++◌, List, [], ◌∷◌, Bool, take, drop, length, slice_get, codes, decimal, if◌then◌else◌}
 use Rattle.std.specs.List.{flat_map, list_any}
 use Rattle.std.specs.Option.{option_map_or}
 use Rattle.std.specs.Str.{bytes_eq}
+use Rattle.radpolicy_common.specs.VisibleText.{visible_text}
+use Rattle.radpolicy_common.specs.declared.terminals.LineBreaks.TheVariants.{Escaped}
 use Rattle.server_configuration.specs.declared.configurations.Configuration.{Configuration}
 use Rattle.server_configuration.specs.declared.items.Content.{Content}
 use Rattle.server_configuration.specs.declared.items.Content.TheVariants.{Section}
@@ -12,10 +14,6 @@ use Rattle.radpolicy_import_policies.specs.declared.origins.LineOrigin.{LineOrig
 use Rattle.radpolicy_import_policies.specs.declared.origins.Origin.{Origin}
 use Rattle.radpolicy_import_policies.specs.declared.settings.LineEnds.{LineEnds}
 use Rattle.radpolicy_import_policies.specs.declared.settings.LineEnds.TheVariants.{Nothing, Origins}
-
--- an octet as a line can show it: a control character is a `?`
-abbrev pub visible : ℕ → ℕ
-visible octet = (if nat_lt octet 32 || octet == 127 then 63 else octet)
 
 -- ---- paths
 
@@ -42,9 +40,9 @@ abbrev pub origin_path : List SourceFile → Origin → List ℕ
 origin_path files origin =
     option_map_or (λ file. path_from files file.path.items) (slice_get files origin.file) []
 
--- `FILE:LINE`
+-- `FILE:LINE`, as it may be shown
 abbrev pub origin_text : List SourceFile → Origin → List ℕ
-origin_text files origin = map visible (origin_path files origin) ++ codes ":" ++ decimal origin.line
+origin_text files origin = visible_text Escaped (origin_path files origin) ++ codes ":" ++ decimal origin.line
 
 -- ---- the policies that a line was put in by
 
@@ -54,7 +52,7 @@ content_name _ = []
 
 abbrev pub policy_name : List Item → ℕ → List ℕ
 policy_name items place =
-    map visible (option_map_or (λ item. content_name item.content) (slice_get items place) [])
+    visible_text Escaped (option_map_or (λ item. content_name item.content) (slice_get items place) [])
 
 -- one that another policy calls
 abbrev pub inner_name : List Item → ℕ → List ℕ

@@ -1,16 +1,14 @@
 //! Lines of a policy before they have their origins.
 
-ghost use Rattle.std.specs.Prelude.{◌≡◌, ◌++◌, [], map, slice_get, OnOk};
+ghost use Rattle.std.specs.Prelude.{◌≡◌, [], slice_get};
 ghost use Rattle.std.specs.Option.{option_map_or};
-ghost use Rattle.radpolicy_import_policies.specs.OriginTexts.{content_name, visible};
+ghost use Rattle.radpolicy_import_policies.specs.OriginTexts.{content_name};
 
-use crate::origins::{Origin, origin_of};
-use avp_dict::Dictionary;
 use avp_forms::Profile;
 use avp_unlang::Code;
 use radpolicy_import_conditions::{Difference, PatternDifference, Reason};
-use server_configuration::{Configuration, Content, Operator, Quote, Text};
-use std::alloc::{AllocError, Global};
+use server_configuration::{Configuration, Content};
+use std::alloc::Global;
 
 /// A line of a policy, and what it comes from.
 #[derive(Drop)]
@@ -40,6 +38,8 @@ pub(crate) struct DraftCondition {
     pub(crate) captures_anew: bool,
     /// Whether it compares texts that may be numbers.
     pub(crate) compares_numbers: bool,
+    /// Whether it prints an IPv6 address or prefix, to search it or to compare it as a text.
+    pub(crate) prints_address: bool,
 }
 
 impl DraftCondition {
@@ -52,6 +52,7 @@ impl DraftCondition {
             uses_captures: false,
             captures_anew: false,
             compares_numbers: false,
+            prints_address: false,
         }
     }
 }
@@ -71,62 +72,6 @@ pub(crate) struct DraftWarning {
     pub(crate) difference: Difference,
 }
 
-// An octet that a comment can have.
-fn visible(octet: u8) -> u8
-    ensures { result ≡ visible octet }
-{
-    if octet < b' ' || octet == 0x7f {
-        b'?'
-    } else {
-        octet
-    }
-}
-
-/// A text in a comment.
-pub(crate) fn push_visible(out: &mut Vec<u8>, text: &[u8]) -> Result<(), AllocError>
-    ensures { OnOk result (out.new.items ≡ out.old.items ++ map visible text.now) }
-{
-    for octet in text {
-        out.push(visible(*octet))?;
-    }
-    Ok(())
-}
-
-fn mark(quote: Quote) -> &'static [u8] {
-    match quote {
-        Quote::Bare => b"",
-        Quote::Double => b"\"",
-        Quote::Single => b"'",
-        Quote::Back => b"`",
-    }
-}
-
-fn push_text(out: &mut Vec<u8>, text: &Text) -> Result<(), AllocError> {
-    out.extend_from_slice(mark(text.quote))?;
-    push_visible(out, &text.octets)?;
-    out.extend_from_slice(mark(text.quote))
-}
-
-fn sign(operator: Operator) -> &'static [u8] {
-    match operator {
-        Operator::Equals => b" = ",
-        Operator::Set => b" := ",
-        Operator::Add => b" += ",
-        Operator::Subtract => b" -= ",
-        Operator::Prepend => b" ^= ",
-        Operator::IsEqual => b" == ",
-        Operator::IsNotEqual => b" != ",
-        Operator::IsLess => b" < ",
-        Operator::IsAtMost => b" <= ",
-        Operator::IsGreater => b" > ",
-        Operator::IsAtLeast => b" >= ",
-        Operator::Matches => b" =~ ",
-        Operator::MatchesNot => b" !~ ",
-        Operator::IsPresent => b" =* ",
-        Operator::IsAbsent => b" !* ",
-    }
-}
-
 pub(crate) fn code_name(code: Code) -> &'static [u8] {
     match code {
         Code::Ok => b"ok",
@@ -135,52 +80,6 @@ pub(crate) fn code_name(code: Code) -> &'static [u8] {
         Code::Fail => b"fail",
         Code::Reject => b"reject",
     }
-}
-
-fn push_words(out: &mut Vec<u8>, name: &Text, arguments: &[Text]) -> Result<(), AllocError> {
-    push_text(out, name)?;
-    for argument in arguments {
-        out.push(b' ')?;
-        push_text(out, argument)?;
-    }
-    Ok(())
-}
-
-// The most octets of a statement that a comment or a report repeats.
-const MAX_SHOWN: usize = 60;
-
-/// What an item says, in one line and not more than the beginning of it.
-pub(crate) fn shown_item(
-    alloc: Global,
-    configuration: &Configuration,
-    place: usize,
-) -> Result<Vec<u8>, AllocError> {
-    let mut text = Vec::new(alloc);
-    let Some(item) = configuration.items.get(place) else {
-        return Ok(text);
-    };
-    match &item.content {
-        Content::Pair {
-            name,
-            operator,
-            value,
-        } => {
-            push_text(&mut text, name)?;
-            text.extend_from_slice(sign(*operator))?;
-            if let Some(value) = value {
-                push_text(&mut text, value)?;
-            }
-        }
-        Content::Section { name, arguments } | Content::Word { name, arguments } => {
-            push_words(&mut text, name, arguments)?;
-        }
-        Content::Include { path, .. } => push_text(&mut text, path)?,
-    }
-    if text.len() > MAX_SHOWN {
-        text.truncate(MAX_SHOWN);
-        text.extend_from_slice(b"..")?;
-    }
-    Ok(text)
 }
 
 /// The name of the section at a place.

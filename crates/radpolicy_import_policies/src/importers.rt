@@ -1,9 +1,6 @@
 //! What becomes of the statements of a server.
 
-use crate::drafts::{
-    Draft, DraftCondition, DraftPart, DraftWarning, code_name, push_visible, section_name,
-    shown_item,
-};
+use crate::drafts::{Draft, DraftCondition, DraftPart, DraftWarning, code_name, section_name};
 use crate::faults::{ImportFault, reason_of};
 use crate::item_readers::{ItemReader, PairLines, condition_of};
 use crate::origins::origin_of;
@@ -12,10 +9,12 @@ use crate::statements::{Statement, StatementKind, counted};
 use crate::tagged_lines::TaggedLines;
 use avp_forms::Profile;
 use avp_lists::List;
+use radpolicy_common::{LineBreaks, visible_text};
 use radpolicy_import_conditions::{
     ChosenLine, Difference, KnownCodes, PatternDifference, Reason, ServerCode, ServerList,
     SwitchChain, UpdateLine, between, list_name,
 };
+use radpolicy_import_texts::carried_policy;
 use std::alloc::AllocError;
 
 /// Makes lines of a policy.
@@ -40,8 +39,8 @@ pub(crate) struct Importer<'a> {
     pub(crate) given: usize,
     /// Whether a server may have captured something else: before the section, or in a part that is left out.
     pub(crate) captured_else: bool,
-    // What was set so far of attributes whose values have tags, in octets.
-    tagged: TaggedLines,
+    /// What was set so far of attributes whose values have tags, in octets.
+    pub(crate) tagged: TaggedLines,
     /// How many statements have begun that no line is of yet.
     pub(crate) begun: usize,
     /// Whether it is warned of that a text may become too long by what is put in, which one line tells for all.
@@ -149,13 +148,13 @@ impl<'a> Importer<'a> {
 
     fn comment(&mut self, place: usize, word: &[u8], text: &[u8]) -> Result<(), ImportFault> {
         let mut line = between(self.reader.alloc, b"# ", word, b" ")?;
-        push_visible(&mut line, text)?;
+        line.extend_from_slice(&visible_text(self.reader.alloc, text, LineBreaks::Escaped)?)?;
         self.push(place, line)
     }
 
     // What the item at a place says, as a comment.
     fn comment_item(&mut self, place: usize, word: &[u8]) -> Result<(), ImportFault> {
-        let shown = shown_item(self.reader.alloc, self.reader.configuration, place)?;
+        let shown = self.reader.shown(place)?;
         self.comment(place, word, &shown)
     }
 
@@ -164,7 +163,7 @@ impl<'a> Importer<'a> {
         if self.begun == 0 {
             return Ok(());
         }
-        let shown = shown_item(self.reader.alloc, self.reader.configuration, place)?;
+        let shown = self.reader.shown(place)?;
         let line = between(self.reader.alloc, b"# ", &shown, b"")?;
         self.push(place, line)
     }
@@ -177,7 +176,7 @@ impl<'a> Importer<'a> {
         reason: Reason,
     ) -> Result<(), ImportFault> {
         let why = format!(in self.reader.alloc; "{reason}")?;
-        let shown = shown_item(self.reader.alloc, self.reader.configuration, place)?;
+        let shown = self.reader.shown(place)?;
         let mut line = between(self.reader.alloc, b"# left out, ", why.as_bytes(), b": ")?;
         line.extend_from_slice(&shown)?;
         self.push(place, line)?;
@@ -203,9 +202,17 @@ impl<'a> Importer<'a> {
         Ok(())
     }
 
+    // Whether an earlier line has told of a difference.
+    fn tells(&self, difference: Difference) -> bool {
+        self.warnings
+            .iter()
+            .any(|warning| warning.difference == difference)
+    }
+
     fn warn(&mut self, place: usize, difference: Difference) -> Result<(), ImportFault> {
         let is_told = match (difference, self.warnings.last()) {
             (Difference::LongExpansion, _) => self.tells_length,
+            (Difference::EscapedOctets | Difference::DottedAddress, _) => self.tells(difference),
             (_, Some(last)) => last.place == place && last.difference == difference,
             (_, None) => false,
         };
@@ -254,6 +261,22 @@ impl<'a> Importer<'a> {
         self.close(place)
     }
 
+    fn warn_of_line(&mut self, place: usize, line: &UpdateLine) -> Result<(), ImportFault> {
+        if line.captures && self.captured_else {
+            self.warn(place, Difference::Pattern(PatternDifference::Earlier))?;
+        }
+        if line.is_escaped {
+            self.warn(place, Difference::EscapedOctets)?;
+        }
+        if line.prints_address {
+            self.warn(place, Difference::DottedAddress)?;
+        }
+        match line.difference {
+            Some(difference) => self.warn(place, difference),
+            None => Ok(()),
+        }
+    }
+
     // A line of so many statements.
     fn push_ready(
         &mut self,
@@ -264,23 +287,20 @@ impl<'a> Importer<'a> {
         is_open: bool,
         line: UpdateLine,
     ) -> Result<bool, ImportFault> {
+        self.warn_of_line(place, &line)?;
         let UpdateLine {
             text,
             needs,
             is_wider,
-            captures,
+            captures: _,
             may_fail,
             tagged,
-            difference,
+            is_escaped: _,
+            prints_address: _,
+            difference: _,
         } = line;
         if is_wider && self.wider.is_none() {
             self.wider = Some(place);
-        }
-        if captures && self.captured_else {
-            self.warn(place, Difference::Pattern(PatternDifference::Earlier))?;
-        }
-        if let Some(difference) = difference {
-            self.warn(place, difference)?;
         }
         if let Some(tagged) = tagged {
             self.tagged.add(tagged)?;
@@ -318,8 +338,9 @@ impl<'a> Importer<'a> {
             self.push_between(place, word, &condition, b") {")?;
         }
         self.indent();
-        self.push_ready(place, place, 0, own, false, line)?;
-        self.close(place)?;
+        if self.push_ready(place, place, 0, own, false, line)? {
+            self.close(place)?;
+        }
         self.close(place)
     }
 
@@ -448,7 +469,9 @@ impl<'a> Importer<'a> {
             let reason = reason_of(refusal)?;
             return self.leave(place, 0, reason);
         }
-        for line in policy.split(|octet| *octet == b'\n') {
+        let hidden = self.reader.settings.hidden;
+        let carried = carried_policy(self.reader.alloc, hidden, policy)?;
+        for line in carried.split(|octet| *octet == b'\n') {
             self.push_text(place, line)?;
         }
         self.codes = KnownCodes::unknown();
@@ -480,19 +503,24 @@ impl<'a> Importer<'a> {
         }
     }
 
-    // The code that a module gives, and what its call says is done after it.
-    fn push_answer(&mut self, place: usize, code: ServerCode) -> Result<(), ImportFault> {
+    // A code, which is so many statements, of a call that may say what is done after it.
+    fn push_answer(
+        &mut self,
+        place: usize,
+        count: usize,
+        code: ServerCode,
+    ) -> Result<(), ImportFault> {
         match self.reader.action(place, code) {
-            None => self.push_code(place, 0, code),
-            Some(b"reject") => self.push_code(place, 0, ServerCode::Reject),
-            Some(b"return") if !self.follows => self.push_code(place, 0, code),
-            Some(_) => self.leave(place, 0, Reason::Action),
+            None => self.push_code(place, count, code),
+            Some(b"reject") => self.push_code(place, count, ServerCode::Reject),
+            Some(b"return") if !self.follows => self.push_code(place, count, code),
+            Some(_) => self.leave(place, count, Reason::Action),
         }
     }
 
     fn module(&mut self, place: usize) -> Result<(), ImportFault> {
         match self.reader.answer(place) {
-            Some(ModuleAnswer::Code(code)) => self.push_answer(place, *code),
+            Some(ModuleAnswer::Code(code)) => self.push_answer(place, 0, *code),
             Some(ModuleAnswer::Policy(policy)) => self.push_policy(place, policy),
             None => {
                 self.calls = self.calls.saturating_add(1);
@@ -570,6 +598,9 @@ impl<'a> Importer<'a> {
         }
         if condition.compares_numbers {
             self.warn(place, Difference::TextNumbers)?;
+        }
+        if condition.prints_address {
+            self.warn(place, Difference::DottedAddress)?;
         }
         if condition.uses_captures && self.captured_else {
             self.warn(place, Difference::Pattern(PatternDifference::Earlier))?;
@@ -748,7 +779,7 @@ impl<'a> Importer<'a> {
             StatementKind::FirstOf => self.first_of(place, block),
             StatementKind::Policy(policy) => self.policy(place, policy, block),
             StatementKind::Module => self.module(place),
-            StatementKind::Code(code) => self.push_code(place, 1, code),
+            StatementKind::Code(code) => self.push_answer(place, 1, code),
             StatementKind::Return => self.end(place, 1, b"return,"),
             StatementKind::Expansion => {
                 self.begin(1);

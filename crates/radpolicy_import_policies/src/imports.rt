@@ -8,7 +8,7 @@ ghost use Rattle.radpolicy_import_policies.specs.OriginTexts.{EndAsTold};
 ghost use Rattle.radpolicy_import_policies.specs.Origins.{AreLines, IsOfItem, line_origins};
 ghost use Rattle.radpolicy_import_policies.specs.Statements.{count_of};
 
-use crate::drafts::{Draft, DraftPart, DraftWarning, shown_item};
+use crate::drafts::{Draft, DraftPart, DraftWarning};
 use crate::faults::ImportFault;
 use crate::importers::{Importer, is_before};
 use crate::item_readers::ItemReader;
@@ -21,6 +21,7 @@ use crate::statements::{Statement, counted};
 use avp_dict::Dictionary;
 use avp_unlang::{Policy, PolicyKind, read_policy};
 use radpolicy_import_conditions::{Difference, Reason};
+use radpolicy_import_texts::{SecretNames, shown_item};
 use server_configuration::Configuration;
 use std::alloc::{AllocError, Global};
 
@@ -107,6 +108,7 @@ fn add_part(
     made: &mut Vec<LeftOut>,
     alloc: Global,
     configuration: &Configuration,
+    hidden: Option<&SecretNames<'_>>,
     part: &DraftPart,
 ) -> Result<(), ImportFault>
     ensures { AreOnLines configuration.now.files.items configuration.now.items.items
@@ -116,7 +118,7 @@ fn add_part(
     let Some(origin) = origin_of(configuration, part.place) else {
         return Err(ImportFault::Lost);
     };
-    let shown = shown_item(alloc, configuration, part.place)?;
+    let shown = shown_item(alloc, hidden, configuration, part.place)?;
     made.push(LeftOut {
         origin,
         count: part.count,
@@ -130,6 +132,7 @@ fn add_part(
 fn left_out(
     alloc: Global,
     configuration: &Configuration,
+    hidden: Option<&SecretNames<'_>>,
     parts: &[DraftPart],
 ) -> Result<Vec<LeftOut>, ImportFault>
     ensures { AreOnLines configuration.now.files.items configuration.now.items.items
@@ -137,7 +140,7 @@ fn left_out(
 {
     let mut made = Vec::new(alloc);
     for part in parts {
-        add_part(&mut made, alloc, configuration, part)?;
+        add_part(&mut made, alloc, configuration, hidden, part)?;
     }
     Ok(made)
 }
@@ -148,6 +151,7 @@ fn add_warning(
     made: &mut Vec<Warning>,
     alloc: Global,
     configuration: &Configuration,
+    hidden: Option<&SecretNames<'_>>,
     warning: &DraftWarning,
 ) -> Result<(), ImportFault>
     ensures { AreOnLines configuration.now.files.items configuration.now.items.items
@@ -157,7 +161,7 @@ fn add_warning(
     let Some(origin) = origin_of(configuration, warning.place) else {
         return Err(ImportFault::Lost);
     };
-    let shown = shown_item(alloc, configuration, warning.place)?;
+    let shown = shown_item(alloc, hidden, configuration, warning.place)?;
     made.push(Warning {
         origin,
         difference: warning.difference,
@@ -170,6 +174,7 @@ fn add_warning(
 fn warnings_of(
     alloc: Global,
     configuration: &Configuration,
+    hidden: Option<&SecretNames<'_>>,
     warnings: &[DraftWarning],
 ) -> Result<Vec<Warning>, ImportFault>
     ensures { AreOnLines configuration.now.files.items configuration.now.items.items
@@ -178,7 +183,7 @@ fn warnings_of(
 {
     let mut made = Vec::new(alloc);
     for warning in warnings {
-        add_warning(&mut made, alloc, configuration, warning)?;
+        add_warning(&mut made, alloc, configuration, hidden, warning)?;
     }
     Ok(made)
 }
@@ -227,7 +232,7 @@ fn add_statement(
     let (drafts, parts, calls) = (importer.drafts.len(), importer.parts.len(), importer.calls);
     let (wider, returns, given) = (importer.wider, importer.returns, importer.given);
     let (warnings, captured_else) = (importer.warnings.len(), importer.captured_else);
-    let tells_length = importer.tells_length;
+    let (tells_length, tagged) = (importer.tells_length, importer.tagged.len());
     importer.statement(statement)?;
     let Some(added) = importer.drafts.get(drafts..) else {
         return Ok(());
@@ -249,6 +254,7 @@ fn add_statement(
     importer.warnings.truncate(warnings);
     importer.captured_else = captured_else;
     importer.tells_length = tells_length;
+    importer.tagged.truncate(tagged);
     importer.begun = 0;
     let alone = std::slice::from_ref(statement);
     importer.leave_all(statement.place, alone, 0, Reason::Refused(kind))
@@ -358,8 +364,8 @@ pub fn import_statements(
     if line_feeds(&text) != lines.len() {
         return Err(ImportFault::LineFeed);
     }
-    let left_out = left_out(alloc, configuration, &parts)?;
-    let warnings = warnings_of(alloc, configuration, &warnings)?;
+    let left_out = left_out(alloc, configuration, settings.hidden, &parts)?;
+    let warnings = warnings_of(alloc, configuration, settings.hidden, &warnings)?;
     let policy = read_policy(alloc, dictionary, &text)?;
     let read = counted(statements)?;
     let kept = all_kept(&lines, &left_out, read)?;

@@ -16,11 +16,12 @@ use radpolicy_import_conditions::{
     Alternative, ChosenLine, ConditionPrinter, ConditionReader, KnownCodes, LineReader, Names,
     Operand, Reason, Refusal, ServerCode, ServerCondition, ServerList, SwitchChain, UpdateLine,
     add_differences, alternatives, between, captures_anew, chain_of, compares_numbers,
-    expansions_in, has_choices, has_pattern, keeps_captures, list_name, parts_of, rewritten, says,
-    uses_captures,
+    expansions_in, has_choices, has_expansion, has_pattern, keeps_captures, list_name, meant_word,
+    parts_of, prints_address, rewritten, says, uses_captures,
 };
+use radpolicy_import_texts::shown_item;
 use server_configuration::{Configuration, Content, Operator, Quote, Text, has_reference};
-use std::alloc::Global;
+use std::alloc::{AllocError, Global};
 
 /// What becomes of a line of an update.
 #[derive(Drop)]
@@ -54,6 +55,11 @@ pub(crate) struct ItemReader<'a> {
 }
 
 impl<'a> ItemReader<'a> {
+    /// What is shown of the item at a place.
+    pub(crate) fn shown(&self, place: usize) -> Result<Vec<u8>, AllocError> {
+        shown_item(self.alloc, self.settings.hidden, self.configuration, place)
+    }
+
     // A text of the item at a place, with its references filled in.
     fn filled(&self, place: usize, text: &[u8]) -> Result<Vec<u8>, Refusal> {
         if !has_reference(text) {
@@ -63,7 +69,25 @@ impl<'a> ItemReader<'a> {
             Some(item) => item.section,
             None => None,
         };
-        Ok(self.configuration.resolved(self.alloc, section, text, &[])?)
+        let filled = self.configuration.resolved(self.alloc, section, text, &[])?;
+        if has_reference(&filled) {
+            // What is left is `$ENV{NAME}`.
+            return Err(Refusal::LeftOut(Reason::Environment));
+        }
+        Ok(filled)
+    }
+
+    // The value of the pair at a place. A server fills in no references between single quotes, and expands nothing
+    // without quotes.
+    fn value_of(&self, place: usize, value: &Text) -> Result<Vec<u8>, Refusal> {
+        if value.quote == Quote::Single {
+            return Ok(Vec::from_slice(self.alloc, &value.octets)?);
+        }
+        let filled = self.filled(place, &value.octets)?;
+        if value.quote == Quote::Bare && has_expansion(&filled) {
+            return Err(Refusal::LeftOut(Reason::BareExpansion));
+        }
+        Ok(filled)
     }
 
     // The policy that a text is between others.
@@ -172,6 +196,7 @@ impl<'a> ItemReader<'a> {
             uses_captures,
             captures_anew: captures_anew(&condition),
             compares_numbers: compares_numbers(&condition),
+            prints_address: prints_address(self.dictionary, &condition),
         })
     }
 
@@ -483,14 +508,28 @@ impl<'a> ItemReader<'a> {
             let line = self.line_of(own, &name.octets, *operator, None)?;
             return Ok(PairLines::One(line));
         };
-        let (quote, octets) = (text.quote, self.filled(place, &text.octets)?);
+        let (quote, octets) = (text.quote, self.value_of(place, text)?);
         if quote == Quote::Double && has_choices(&octets) {
             let lines = self.chosen_lines(own, &name.octets, *operator, &octets)?;
             return Ok(PairLines::Chosen(lines));
         }
-        let value = Text { quote, octets };
+        let value = self.meant_value(*operator, Text { quote, octets })?;
         let line = self.line_of(own, &name.octets, *operator, Some(&value))?;
         Ok(PairLines::One(line))
+    }
+
+    // The value of a line as a server takes it: a word that is a reference there is one here by its `&`.
+    fn meant_value(&self, operator: Operator, value: Text) -> Result<Text, AllocError> {
+        if value.quote != Quote::Bare
+            || operator == Operator::IsAbsent
+            || self.settings.meaning == Meaning::Plain
+        {
+            return Ok(value);
+        }
+        Ok(Text {
+            quote: Quote::Bare,
+            octets: meant_word(self.alloc, self.dictionary, &value.octets)?,
+        })
     }
 
     // The conditions of branches, up to the first that cannot be read.

@@ -2,12 +2,15 @@
 
 ghost use Rattle.std.specs.Prelude.{◌≡◌, ◌≤◌, ◌++◌, decimal, length, IfOk, OnOk};
 ghost use Rattle.std.specs.List.{flat_map};
+ghost use Rattle.radpolicy_common.specs.VisibleText.{visible_text};
+ghost use Rattle.radpolicy_common.specs.declared.terminals.LineBreaks.TheVariants.{Escaped};
 ghost use Rattle.server_configuration.specs.Places.{line_feeds};
 ghost use Rattle.radpolicy_import_policies.specs.OriginTexts.{after_front, folder, inner_name, map_line, origin_map, origin_path, origin_text, path_from, policies_text};
 
-use crate::drafts::{push_visible, section_name};
+use crate::drafts::section_name;
 use crate::origins::{LineOrigin, Origin};
 use itoa::Buffer;
+use radpolicy_common::{LineBreaks, visible_text};
 use server_configuration::{Configuration, SourceFile};
 use std::alloc::{AllocError, Global};
 
@@ -32,6 +35,14 @@ fn push_number(out: &mut Vec<u8>, number: usize) -> Result<(), AllocError>
 {
     let mut buffer = Buffer::new();
     out.extend_from_slice(buffer.format(number).as_bytes())
+}
+
+// A text in one line, without control characters.
+fn push_visible(out: &mut Vec<u8>, text: &[u8]) -> Result<(), AllocError>
+    ensures { OnOk result (out.new.items ≡ out.old.items ++ visible_text Escaped text.now) }
+{
+    let shown = visible_text(*out.allocator(), text, LineBreaks::Escaped)?;
+    out.extend_from_slice(&shown)
 }
 
 // A path up to its last `/`.

@@ -3,6 +3,7 @@
 use avp_forms::Profile;
 use avp_unlang::Code;
 use radpolicy_import_conditions::{KnownCodes, OtherAttribute, ServerCode};
+use radpolicy_import_texts::SecretNames;
 use server_configuration::{Configuration, Content};
 
 /// Whose meaning conditions and update lines keep.
@@ -99,6 +100,8 @@ pub struct Settings<'a> {
     /// How many of the configuration's last items are pairs of initial lists, as [`crate::add_initial`] adds them. They
     /// are updates in front of the policy.
     pub initial: usize,
+    /// The names beside which values are hidden in comments and reports; without them all is shown.
+    pub hidden: Option<&'a SecretNames<'a>>,
 }
 
 impl Settings<'_> {

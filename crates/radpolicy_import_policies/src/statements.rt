@@ -208,7 +208,15 @@ fn kind_of_section(name: &[u8], arguments: &[Text]) -> StatementKind {
             StatementKind::LeftOut(Reason::OtherSection)
         }
         _ if name.ends_with(b"-Type") && arguments.len() > 0 => StatementKind::OwnSection,
-        _ => StatementKind::Module,
+        _ => kind_of_call(name),
+    }
+}
+
+// A code, or else the call of a module, whose block says what is done after a code.
+fn kind_of_call(name: &[u8]) -> StatementKind {
+    match ServerCode::named(name.strip_prefix(b"-").unwrap_or(name)) {
+        Some(code) => StatementKind::Code(code),
+        None => StatementKind::Module,
     }
 }
 
@@ -382,7 +390,7 @@ impl<'a> Builder<'a> {
         let block = self.block(Some(place), depth)?;
         // The call of a module with codes of its own has pairs alone.
         let kind = match kind {
-            StatementKind::Module if !block.is_empty() => {
+            StatementKind::Module | StatementKind::Code(_) if !block.is_empty() => {
                 StatementKind::LeftOut(Reason::OtherSection)
             }
             kind => kind,

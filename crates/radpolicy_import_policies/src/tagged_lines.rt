@@ -18,6 +18,16 @@ impl TaggedLines {
         }
     }
 
+    /// How many there are.
+    pub(crate) fn len(&self) -> usize {
+        self.lines.len()
+    }
+
+    /// Takes back those after so many.
+    pub(crate) fn truncate(&mut self, count: usize) {
+        self.lines.truncate(count);
+    }
+
     pub(crate) fn add(&mut self, line: TaggedLine) -> Result<(), AllocError> {
         let is_known = self.lines.iter().any(|other| {
             other.list == line.list && other.id.equals(line.id) && other.tag == line.tag

@@ -1,12 +1,12 @@
 //! A file of the pairs of initial lists that a policy wants.
 
-use crate::drafts::push_visible;
 use crate::imports::Imported;
 use crate::origin_texts::push_origin;
-use crate::wanted::{WantedAttribute, wanted_attributes};
-use avp_dict::{Dictionary, same_name};
+use crate::wanted::wanted_attributes;
+use avp_dict::same_name;
 use avp_lists::List;
-use radpolicy_import_conditions::{OtherAttribute, OtherSource, list_name};
+use radpolicy_import_conditions::{Names, OtherAttribute, OtherSource, list_name};
+use radpolicy_import_texts::{SecretNames, shown_expansion};
 use server_configuration::Configuration;
 use std::alloc::{AllocError, Global};
 
@@ -30,16 +30,16 @@ fn push_head(
     out: &mut Vec<u8>,
     configuration: &Configuration,
     imported: &Imported,
-    wanted: WantedAttribute,
-    expansion: Option<&[u8]>,
+    line: usize,
+    shown: &[u8],
 ) -> Result<(), AllocError> {
     out.extend_from_slice(b"# ")?;
-    if let Some(line) = imported.lines.get(wanted.line.saturating_sub(1)) {
+    if let Some(line) = imported.lines.get(line.saturating_sub(1)) {
         push_origin(out, configuration, line.origin)?;
     }
-    if let Some(text) = expansion {
+    if !shown.is_empty() {
         out.extend_from_slice(b": %{")?;
-        push_visible(out, text)?;
+        out.extend_from_slice(shown)?;
         out.push(b'}')?;
     }
     Ok(out.push(b'\n')?)
@@ -50,17 +50,20 @@ fn push_head(
 pub fn initial_template(
     alloc: Global,
     configuration: &Configuration,
-    dictionary: &Dictionary,
+    names: Names<'_>,
+    hidden: Option<&SecretNames<'_>>,
     imported: &Imported,
-    others: &[OtherAttribute],
 ) -> Result<Vec<u8>, AllocError> {
     let mut out = Vec::new(alloc);
     for wanted in &wanted_attributes(alloc, &imported.policy)? {
-        let Some(entry) = dictionary.by_id(wanted.id) else {
+        let Some(entry) = names.dictionary.by_id(wanted.id) else {
             continue;
         };
-        let expansion = expansion_of(others, wanted.list, entry.name);
-        push_head(&mut out, configuration, imported, *wanted, expansion)?;
+        let shown = match expansion_of(names.others, wanted.list, entry.name) {
+            Some(text) => shown_expansion(alloc, hidden, text)?,
+            None => Vec::new(alloc),
+        };
+        push_head(&mut out, configuration, imported, wanted.line, &shown)?;
         out.push(b'#')?;
         out.extend_from_slice(list_name(wanted.list))?;
         out.push(b':')?;

@@ -18,6 +18,8 @@ const FORMAT: &str = "format";
 
 const STRICT: &str = "strict";
 
+const HIDE: &str = "hide";
+
 const DICTIONARY: &str = "dictionary";
 
 /// What a command line asks for.
@@ -28,6 +30,8 @@ pub struct Plan<'a> {
     pub format: Format,
     /// Whether a warning changes the status.
     pub strict: bool,
+    /// The names of attributes whose values are hidden, beside those that are secret as it is.
+    pub hidden: Vec<&'a str>,
     /// Dictionary files, the main one first.
     pub dictionaries: Vec<&'a str>,
 }
@@ -52,6 +56,16 @@ fn strict_option<'a>(alloc: Global) -> Arg<'a> {
         .long(STRICT)
         .action(ArgAction::SetTrue)
         .help("Ends with status 1 where there is a warning")
+}
+
+fn hide_option<'a>(alloc: Global) -> Arg<'a> {
+    repeated(
+        alloc,
+        HIDE,
+        "NAME",
+        "Hides the values of this attribute as well; more than once for several",
+    )
+    .long(HIDE)
 }
 
 fn dictionary_files<'a>(alloc: Global) -> Arg<'a> {
@@ -79,6 +93,7 @@ fn program<'a>(alloc: Global) -> Result<clap::Command<'a>, AllocError> {
         .arg(repeated(alloc, REQUEST, "REQUEST", "A request of lines to look at").short('f'))?
         .arg(format_option(alloc))?
         .arg(strict_option(alloc))?
+        .arg(hide_option(alloc))?
         .arg(dictionary_files(alloc))
 }
 
@@ -124,6 +139,7 @@ fn plan_of<'a>(alloc: Global, found: &ArgMatches<'a>) -> Result<Plan<'a>, Fault>
         requests: all_of(alloc, found, REQUEST)?,
         format,
         strict: found.get_flag(STRICT),
+        hidden: all_of(alloc, found, HIDE)?,
         dictionaries: all_of(alloc, found, DICTIONARY)?,
     })
 }

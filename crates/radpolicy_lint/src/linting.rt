@@ -4,9 +4,12 @@ use crate::command_line::Plan;
 use crate::printing::{Level, Note, push_note};
 use avp_dict::{Dictionary, FileSet};
 use avp_forms::{profile_of, read_request};
+use avp_lists::AttrId;
 use avp_unlang::{PolicyKind, read_policy};
 use radpolicy::{Fault, status};
-use radpolicy_help::{Finding, Source, Sources, explain, findings, without_statement};
+use radpolicy_help::{
+    Finding, Source, Sources, UnreadSecrets, explain, explain_by, findings, without_statement,
+};
 use std::alloc::{AllocError, Global};
 
 /// The status of a warning, where one is asked for.
@@ -40,6 +43,14 @@ impl Found {
 pub struct Linter<'a> {
     pub plan: &'a Plan<'a>,
     pub files: &'a FileSet,
+}
+
+/// By what policies are read, and what of them is hidden.
+#[derive(Clone, Copy)]
+pub struct Reading<'a> {
+    pub dictionary: &'a Dictionary,
+    /// Attributes whose values are hidden, beside those that are secret as it is.
+    pub hidden: &'a [AttrId],
 }
 
 const NOTHING: Source<'static> = Source {
@@ -147,6 +158,7 @@ impl<'a> Linter<'a> {
             script: NOTHING,
             secret: "",
             is_request_wider: false,
+            hidden: &self.plan.hidden,
         };
         let help = explain(alloc, &fault, &sources)?;
         let path = match &fault {
@@ -164,13 +176,14 @@ impl<'a> Linter<'a> {
     // Adds what is found in a policy up to its first fault. The text without the statement that has it is given, where
     // the rest can be read.
     fn add_part(
-        &self,
+        self,
         found: &mut Found,
         dictionary: &Dictionary,
-        path: &'a str,
-        text: &[u8],
+        secrets: &UnreadSecrets<'_>,
+        source: Source<'a>,
     ) -> Result<Option<Vec<u8>>, AllocError> {
         let alloc = *found.text.allocator();
+        let Source { path, text } = source;
         match read_policy(alloc, dictionary, text) {
             Ok(policy) => {
                 for finding in &findings(alloc, dictionary, &policy, text)? {
@@ -181,7 +194,6 @@ impl<'a> Linter<'a> {
             Err(fault) if fault.kind == PolicyKind::Memory => Err(AllocError),
             Err(fault) => {
                 let refusal = Fault::from(fault);
-                let source = Source { path, text };
                 let sources = Sources {
                     files: self.files,
                     dictionaries: &self.plan.dictionaries,
@@ -190,8 +202,9 @@ impl<'a> Linter<'a> {
                     script: NOTHING,
                     secret: "",
                     is_request_wider: false,
+                    hidden: &self.plan.hidden,
                 };
-                let help = explain(alloc, &refusal, &sources)?;
+                let help = explain_by(alloc, &refusal, &sources, secrets)?;
                 self.add_fault(found, path, refusal, &help)?;
                 without_statement(alloc, text, fault.offset)
             }
@@ -203,14 +216,21 @@ impl<'a> Linter<'a> {
     pub fn add_policy(
         &self,
         found: &mut Found,
-        dictionary: &Dictionary,
+        reading: Reading<'_>,
         path: &'a str,
         text: &[u8],
     ) -> Result<(), AllocError> {
-        let mut left = self.add_part(found, dictionary, path, text)?;
+        let Reading { dictionary, hidden } = reading;
+        let secrets = UnreadSecrets::of(*found.text.allocator(), dictionary, hidden, text)?;
+        let linter = *self;
+        let source = Source { path, text };
+        let mut left = linter.add_part(found, dictionary, &secrets, source)?;
         for _ in 1..MAX_FAULTS {
             match left {
-                Some(rest) => left = self.add_part(found, dictionary, path, &rest)?,
+                Some(rest) => {
+                    let source = Source { path, text: &rest };
+                    left = linter.add_part(found, dictionary, &secrets, source)?;
+                }
                 None => return Ok(()),
             }
         }
@@ -238,6 +258,7 @@ impl<'a> Linter<'a> {
                     script: NOTHING,
                     secret: "",
                     is_request_wider: false,
+                    hidden: &self.plan.hidden,
                 };
                 let help = explain(alloc, &fault, &sources)?;
                 self.add_fault(found, path, fault, &help)

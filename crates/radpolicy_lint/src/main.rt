@@ -9,11 +9,11 @@ ghost use Rattle.std.specs.Prelude.{◌<◌, length};
 ghost use Rattle.avp_dict.specs.Lines.{HasDistinctNames};
 
 use crate::command_line::{Plan, help_text, read_words};
-use crate::linting::{Found, Linter};
+use crate::linting::{Found, Linter, Reading};
 use avp_dict::{Dictionary, FileSet};
 use radpolicy::{Fault, status};
-use radpolicy_common::{Unread, read_dictionary_set, read_file, refuse_early};
-use radpolicy_help::{refuse_unread_explained, refuse_words_of};
+use radpolicy_common::{Unread, named_attributes, read_dictionary_set, read_file, refuse_early};
+use radpolicy_help::{refuse_name, refuse_unread_explained, refuse_words_of};
 use std::alloc::AllocError;
 use std::io;
 use std::process::ExitCode;
@@ -23,11 +23,11 @@ fn lint_policy<'a>(
     rt: &HostRuntime,
     linter: &Linter<'a>,
     found: &mut Found,
-    dictionary: &Dictionary,
+    reading: Reading<'_>,
     path: &'a str,
 ) -> Result<(), AllocError> {
     match read_file(rt, path) {
-        Ok(text) => linter.add_policy(found, dictionary, path, text.as_slice()),
+        Ok(text) => linter.add_policy(found, reading, path, text.as_slice()),
         Err(Unread::Memory) => Err(AllocError),
         Err(unread) => linter.add_unread(found, path, unread.fault()),
     }
@@ -52,28 +52,49 @@ fn lint_files(
     rt: &HostRuntime,
     linter: &Linter<'_>,
     found: &mut Found,
-    dictionary: &Dictionary,
+    reading: Reading<'_>,
 ) -> Result<(), AllocError> {
     for path in &linter.plan.policies {
-        lint_policy(rt, linter, found, dictionary, path)?;
+        lint_policy(rt, linter, found, reading, path)?;
     }
     for path in &linter.plan.requests {
-        lint_request(rt, linter, found, dictionary, path)?;
+        lint_request(rt, linter, found, reading.dictionary, path)?;
     }
     Ok(())
 }
 
-fn found_in(rt: &HostRuntime, plan: &Plan<'_>, files: &FileSet) -> Result<Found, AllocError>
+// Shows what is found in all files by a dictionary, unless a name is none that is to be hidden.
+fn lint_by(
+    rt: &HostRuntime,
+    linter: &Linter<'_>,
+    dictionary: &Dictionary,
+) -> Result<u8, AllocError> {
+    let hidden = match named_attributes(rt.alloc(), dictionary, &linter.plan.hidden)? {
+        Ok(ids) => ids,
+        Err(name) => return Ok(refuse_name(rt, dictionary, name)),
+    };
+    let reading = Reading {
+        dictionary,
+        hidden: &hidden,
+    };
+    let mut found = Found::new(rt.alloc());
+    lint_files(rt, linter, &mut found, reading)?;
+    Ok(show(rt, &found))
+}
+
+fn lint_set(rt: &HostRuntime, plan: &Plan<'_>, files: &FileSet) -> Result<u8, AllocError>
     requires first { 0 < length files.now }
     requires distinct { HasDistinctNames files.now }
 {
-    let mut found = Found::new(rt.alloc());
     let linter = Linter { plan, files };
     match Dictionary::read(rt.alloc(), files) {
-        Ok(dictionary) => lint_files(rt, &linter, &mut found, &dictionary)?,
-        Err(fault) => linter.add_dictionary(&mut found, Fault::from(fault))?,
+        Ok(dictionary) => lint_by(rt, &linter, &dictionary),
+        Err(fault) => {
+            let mut found = Found::new(rt.alloc());
+            linter.add_dictionary(&mut found, Fault::from(fault))?;
+            Ok(show(rt, &found))
+        }
     }
-    Ok(found)
 }
 
 fn show(rt: &HostRuntime, found: &Found) -> u8 {
@@ -88,8 +109,8 @@ fn lint_plan(rt: &HostRuntime, plan: &Plan<'_>) -> u8 {
         Ok(files) => files,
         Err(unread) => return refuse_unread_explained(rt, unread),
     };
-    match found_in(rt, plan, &files) {
-        Ok(found) => show(rt, &found),
+    match lint_set(rt, plan, &files) {
+        Ok(code) => code,
         Err(_) => refuse_early(rt, &Fault::Memory),
     }
 }

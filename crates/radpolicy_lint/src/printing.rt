@@ -94,8 +94,9 @@ fn push_member(out: &mut Vec<u8>, name: &str, value: &[u8]) -> Result<(), AllocE
 }
 
 fn push_json(out: &mut Vec<u8>, note: &Note<'_>) -> Result<(), AllocError> {
+    let path = visible_text(*out.allocator(), note.path.as_bytes(), LineBreaks::Escaped)?;
     push(out, "{\"path\":")?;
-    push_json_string(out, note.path.as_bytes(), Escaping::Plain)?;
+    push_json_string(out, &path, Escaping::Plain)?;
     if note.line > 0 {
         push(out, ",\"line\":")?;
         push_number(out, note.line)?;

@@ -33,7 +33,11 @@ const ZONE: &str = "zone";
 
 const OUTPUT: &str = "output";
 
+const FORCE: &str = "force";
+
 const SHOW_SECRETS: &str = "show-secrets";
+
+const HIDE: &str = "hide";
 
 const DICTIONARY: &str = "dictionary";
 
@@ -54,7 +58,11 @@ pub struct Plan<'a> {
     pub zone: Option<i16>,
     /// The page's file; standard output where there is none.
     pub output: Option<&'a str>,
+    /// Whether a file is replaced that the program did not write.
+    pub is_forced: bool,
     pub secrets: SecretValues,
+    /// The names of attributes that are hidden as well.
+    pub hidden: Vec<&'a str>,
     pub dictionaries: Vec<&'a str>,
 }
 
@@ -117,6 +125,14 @@ fn output_option<'a>(alloc: Global) -> Arg<'a> {
     file_option(alloc, OUTPUT, "FILE", help).short('o')
 }
 
+fn hide_option<'a>(alloc: Global) -> Arg<'a> {
+    Arg::new(alloc, HIDE)
+        .long(HIDE)
+        .value_name("NAME")
+        .action(ArgAction::Append)
+        .help("Hides the values of an attribute too; may be given more than once")
+}
+
 fn dictionary_files<'a>(alloc: Global) -> Arg<'a> {
     Arg::new(alloc, DICTIONARY)
         .required(true)
@@ -150,7 +166,13 @@ fn program<'a>(alloc: Global) -> Result<clap::Command<'a>, AllocError> {
         .arg(control_option(alloc))?
         .arg(zone_option(alloc))?
         .arg(output_option(alloc))?
+        .arg(flag(
+            alloc,
+            FORCE,
+            "Replaces a file that is there, though this program did not write it or it was changed since",
+        ))?
         .arg(flag(alloc, SHOW_SECRETS, "Shows passwords and keys"))?
+        .arg(hide_option(alloc))?
         .arg(dictionary_files(alloc))
 }
 
@@ -224,6 +246,13 @@ fn shown_secrets(found: &ArgMatches<'_>) -> SecretValues {
     }
 }
 
+fn hidden_names<'a>(alloc: Global, found: &ArgMatches<'a>) -> Result<Vec<&'a str>, AllocError> {
+    match found.get_strs(HIDE) {
+        Some(names) => Vec::from_slice(alloc, names),
+        None => Ok(Vec::new(alloc)),
+    }
+}
+
 fn plan_of<'a>(alloc: Global, found: &ArgMatches<'a>) -> Result<Plan<'a>, Fault>
     ensures { IfErr result IsWordFault }
 {
@@ -239,7 +268,9 @@ fn plan_of<'a>(alloc: Global, found: &ArgMatches<'a>) -> Result<Plan<'a>, Fault>
         control: found.get_str(CONTROL),
         zone: zone_of(found)?,
         output: found.get_str(OUTPUT),
+        is_forced: found.get_flag(FORCE),
         secrets: shown_secrets(found),
+        hidden: hidden_names(alloc, found)?,
         dictionaries: Vec::from_slice(alloc, files)?,
     })
 }

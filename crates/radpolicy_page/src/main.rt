@@ -12,16 +12,17 @@ ghost use Rattle.radpolicy.specs.Faults.{IsPrintedAnywhere, IsPrintedWith};
 
 use crate::command_line::{Plan, help_text, read_words};
 use crate::sources::refuse_files;
-use crate::writing::write_page;
+use crate::writing::{PROGRAM, write_page};
 use avp_dict::{Dictionary, FileSet};
-use avp_forms::profile_of;
-use avp_lists::Octets;
+use avp_forms::Profile;
+use avp_lists::{AttrId, Octets};
 use hex::FromHexError;
 use radpolicy::{Fault, Form, PreparedPolicy, RequestHead, RequestKind, Secret, Start, status};
 use radpolicy_common::{
-    Unread, read_dictionary_set, read_file, read_optional, read_standard_input, refuse_early,
+    Hiding, Unread, named_attributes, read_dictionary_set, read_file, read_optional,
+    read_standard_input, refuse_early, refuse_outputs,
 };
-use radpolicy_help::{refuse_unread_explained, refuse_words_of};
+use radpolicy_help::{refuse_name, refuse_unread_explained, refuse_words_of};
 use radpolicy_page_data::{Page, PageFault, page_of};
 use std::alloc::{AllocError, Global};
 use std::io;
@@ -114,7 +115,7 @@ fn start_by<'a>(
             prepared,
             secret,
             head_by(plan),
-            profile_of(request),
+            Profile::Wider,
             plan.zone,
             request,
         ),
@@ -131,17 +132,11 @@ fn with_lists<'a>(
     ensures { IfErr result IsPrintedAnywhere }
 {
     let start = match &files.reply {
-        Some(lines) => {
-            let lines = lines.as_slice();
-            start.with_reply_lines(alloc, profile_of(lines), zone, lines)?
-        }
+        Some(lines) => start.with_reply_lines(alloc, Profile::Wider, zone, lines.as_slice())?,
         None => start,
     };
     match &files.control {
-        Some(lines) => {
-            let lines = lines.as_slice();
-            start.with_control_lines(alloc, profile_of(lines), zone, lines)
-        }
+        Some(lines) => start.with_control_lines(alloc, Profile::Wider, zone, lines.as_slice()),
         None => Ok(start),
     }
 }
@@ -174,30 +169,48 @@ fn secret_in(file: &Option<Octets>) -> Result<Option<Secret<'_>>, Fault>
 }
 
 // The page of what the files hold; the outer refusal is that of `radpolicy run`.
-fn page_by(
-    rt: &HostRuntime,
+fn page_with(
+    alloc: Global,
+    dictionary: &Dictionary,
     plan: &Plan<'_>,
     files: &Files,
+    given: &[AttrId],
 ) -> Result<Result<Page, PageFault>, Fault>
+    ensures { IfErr result IsPrintedAnywhere }
+{
+    let secret = secret_in(&files.secret)?;
+    let policy = PreparedPolicy::read(alloc, dictionary, files.policy.as_slice())?;
+    let outcome = start_for(alloc, &policy, secret.as_ref(), plan, files)?.run(alloc)?;
+    let start = start_for(alloc, &policy, secret.as_ref(), plan, files)?;
+    let text = files.policy.as_slice();
+    let hiding = Hiding {
+        secrets: plan.secrets,
+        given,
+    };
+    Ok(page_of(alloc, start, outcome.reply(), text, hiding))
+}
+
+// Shows the page of what the files hold, and gives the status; or what is wrong with them.
+fn show_files(rt: &HostRuntime, plan: &Plan<'_>, files: &Files) -> Result<u8, Fault>
     requires first { 0 < length files.now.dictionary }
     requires distinct { HasDistinctNames files.now.dictionary }
     ensures { IfErr result (IsPrintedWith files.now.dictionary) }
 {
     let alloc = rt.alloc();
     let dictionary = Dictionary::read(alloc, &files.dictionary)?;
-    let secret = secret_in(&files.secret)?;
-    let policy = PreparedPolicy::read(alloc, &dictionary, files.policy.as_slice())?;
-    let outcome = start_for(alloc, &policy, secret.as_ref(), plan, files)?.run(alloc)?;
-    let start = start_for(alloc, &policy, secret.as_ref(), plan, files)?;
-    let text = files.policy.as_slice();
-    Ok(page_of(alloc, start, outcome.reply(), text, plan.secrets))
+    let given = match named_attributes(alloc, &dictionary, &plan.hidden)? {
+        Ok(given) => given,
+        Err(name) => return Ok(refuse_name(rt, &dictionary, name)),
+    };
+    let page = page_with(alloc, &dictionary, plan, files, &given)?;
+    Ok(show_page(rt, plan, page))
 }
 
 fn show_page(rt: &HostRuntime, plan: &Plan<'_>, page: Result<Page, PageFault>) -> u8 {
     match page {
-        Ok(page) => match write_page(rt, plan.output, &page) {
+        Ok(page) => match write_page(rt, plan, &page) {
             Ok(()) => 0,
-            Err(_) => refuse_early(rt, &Fault::Write),
+            Err(fault) => refuse_outputs(rt, PROGRAM, &fault),
         },
         Err(PageFault::Memory) => refuse_early(rt, &Fault::Memory),
         Err(PageFault::TooLarge) => {
@@ -214,8 +227,8 @@ fn show_plan(rt: &HostRuntime, plan: &Plan<'_>) -> u8 {
         Ok(files) => files,
         Err(unread) => return refuse_unread_explained(rt, unread),
     };
-    match page_by(rt, plan, &files) {
-        Ok(page) => show_page(rt, plan, page),
+    match show_files(rt, plan, &files) {
+        Ok(status) => status,
         Err(fault) => refuse_files(rt, plan, &files, &fault),
     }
 }
@@ -234,7 +247,7 @@ fn obey_words(rt: &HostRuntime, words: &[String]) -> u8 {
     match read_words(rt.alloc(), words) {
         Ok(plan) => show_plan(rt, &plan),
         Err(Fault::Help) => show_help(rt, words),
-        Err(fault) => refuse_words_of(rt, &fault, "radpolicy-page", help_text(rt.alloc(), words)),
+        Err(fault) => refuse_words_of(rt, &fault, PROGRAM, help_text(rt.alloc(), words)),
     }
 }
 

@@ -33,7 +33,8 @@ fn sources_of<'a>(plan: &'a Plan<'a>, files: &'a Files, fault: &Fault) -> Source
         files: &files.dictionary,
         dictionaries: &plan.dictionaries,
         request: lines_with(plan, files, fault),
-        is_request_wider: false,
+        is_request_wider: true,
+        hidden: &plan.hidden,
         policy: Source {
             path: plan.policy,
             text: files.policy.as_slice(),

@@ -1,9 +1,13 @@
 //! The page, as it is written.
 
+use crate::command_line::Plan;
 use crate::fixed_page::{AFTER_DATA, AFTER_LISTS, BEFORE_LISTS};
+use radpolicy_common::{Call, Comments, Output, OutputFault, Outputs};
 use radpolicy_page_data::Page;
 use std::alloc::{AllocError, Global};
-use std::{fs, io};
+
+/// What the program is called in its faults and in the pages that it writes.
+pub const PROGRAM: &str = "radpolicy-page";
 
 // The whole page: the fixed one with the parts that are of a run.
 fn page_text(alloc: Global, page: &Page) -> Result<Vec<u8>, AllocError> {
@@ -16,19 +20,35 @@ fn page_text(alloc: Global, page: &Page) -> Result<Vec<u8>, AllocError> {
     Ok(text)
 }
 
-// Writes beside the file, and then renames, so that a file is there whole or not at all.
-fn write_file(rt: &HostRuntime, path: &str, text: &[u8]) -> io::Result<()> {
-    let alloc = rt.alloc();
-    let beside = format!(in alloc; "{path}.new")?;
-    fs::write(rt, beside.as_str(), text)?;
-    fs::rename(rt, beside.as_str(), path)
+// The paths of all files that were read.
+fn inputs_of<'a>(alloc: Global, plan: &Plan<'a>) -> Result<Vec<&'a str>, AllocError> {
+    let mut inputs = Vec::from_slice(alloc, &plan.dictionaries)?;
+    inputs.push(plan.request.unwrap_or("/dev/stdin"))?;
+    inputs.push(plan.policy)?;
+    for path in [plan.secret, plan.reply, plan.control] {
+        if let Some(path) = path {
+            inputs.push(path)?;
+        }
+    }
+    Ok(inputs)
 }
 
 /// Writes the page to a file, or to standard output.
-pub fn write_page(rt: &HostRuntime, output: Option<&str>, page: &Page) -> io::Result<()> {
+pub fn write_page<'a>(
+    rt: &HostRuntime,
+    plan: &Plan<'a>,
+    page: &Page,
+) -> Result<(), OutputFault<'a>> {
     let text = page_text(rt.alloc(), page)?;
-    match output {
-        Some(path) => write_file(rt, path, &text),
-        None => rt.stdout().write_all(&text),
-    }
+    let inputs = inputs_of(rt.alloc(), plan)?;
+    let call = Call {
+        program: PROGRAM,
+        is_forced: plan.is_forced,
+        inputs: &inputs,
+    };
+    let output = Output {
+        path: plan.output,
+        comments: Comments::Html,
+    };
+    Outputs::plan(rt, call, &[output])?.write(rt, &[text.as_slice()])
 }

@@ -11,7 +11,7 @@ use Rattle.avp_unlang.specs.Resolutions.{StateFits}
 use Rattle.radpolicy_common.specs.ChangeTexts.{AllFit, Fits}
 use Rattle.radpolicy_page_data.specs.Differences.{Makes, entry_at, lists_at, lists_before}
 use Rattle.radpolicy_page_data.specs.Positions.{ArePositions, position_text}
-use Rattle.radpolicy_page_data.specs.Secrets.{Redaction}
+use Rattle.radpolicy_common.specs.Secrets.{Redaction}
 use Rattle.radpolicy_page_data.specs.Splices.{applied}
 use Rattle.radpolicy_page_data.specs.declared.differences.Difference.{Difference}
 use Rattle.radpolicy_page_data.specs.declared.differences.Difference.TheVariants.{Again, Spliced}

@@ -2,8 +2,6 @@ pub mod Differences
 pub mod Embedding
 pub mod Packets
 pub mod Pages
-pub mod Policies
 pub mod Positions
-pub mod Secrets
 pub mod Splices
 pub mod internal

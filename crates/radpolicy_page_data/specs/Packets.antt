@@ -1,18 +1,21 @@
 -- The octets of a reply packet (RFC 2865, section 3), as JSON (RFC 8259): a row for its head, one for its
 -- authenticator and one for each attribute, each a name and hexadecimal digits.
-use Rattle.std.specs.Prelude.{ℕ, ◌+◌, ◌-◌, Bool, false, ◌&&◌, ◌||◌, ◌==◌, nat_lt, nat_le, if◌then◌else◌, List, [], ◌∷◌, ◌++◌, codes, decimal}
+use Rattle.std.specs.Prelude.{ℕ, ◌+◌, ◌-◌, Bool, false, not, ◌&&◌, ◌||◌, ◌==◌, nat_lt, nat_le, if◌then◌else◌, List, [], ◌∷◌, ◌++◌, codes, decimal}
 use Rattle.std.specs.List.{list_any}
 use Rattle.std.specs.Option.{option_map_or}
 use Rattle.avp_lists.specs.declared.pairs.AttrId.{AttrId}
 use Rattle.avp_lists.specs.declared.pairs.AttrId.TheVariants as ids
 use Rattle.avp_lists.specs.declared.pairs.Pair.{Pair}
+use Rattle.avp_dict.specs.AttributeNumbers.{proxy_state}
 use Rattle.avp_dict.specs.Dictionary.{Dictionary}
 use Rattle.avp_dict.specs.Names.{Described, described}
+use Rattle.avp_dict.specs.Sent.{is_container}
 use Rattle.radpolicy.specs.declared.run_outcomes.Reply.{Reply}
 use Rattle.radpolicy.specs.declared.run_outcomes.Reply.TheVariants as reply
-use Rattle.radpolicy_common.specs.declared.change_texts.SecretValues.TheVariants.{Hidden, Shown}
+use Rattle.radpolicy_common.specs.declared.redactions.SecretValues.TheVariants.{Hidden, Shown}
 use Rattle.radpolicy_page_data.specs.Embedding.{string_text, two_digits}
-use Rattle.radpolicy_page_data.specs.Secrets.{Redaction, hides, is_among}
+use Rattle.radpolicy_common.specs.ProxyStates.{sends_hidden_proxy_state}
+use Rattle.radpolicy_common.specs.Secrets.{Redaction, hides, is_among}
 use Rattle.radpolicy_page_data.specs.declared.packets.Spot.{Spot}
 use Rattle.radpolicy_page_data.specs.declared.packets.Spot.TheVariants as spot
 
@@ -28,12 +31,18 @@ type_of (ids.Extended t n) = t
 abbrev pub is_hidden_as : Redaction → ℕ → Pair → Bool
 is_hidden_as redaction t pair = type_of pair.id == t && hides redaction pair.id pair.value
 
--- attributes of the type are hidden: it is secret, or the reply list has a hidden value that is sent with it
-unfoldable pub hides_type : Redaction → List Pair → ℕ → Bool
-hides_type redaction replied t = elim redaction.secrets [
+-- each attribute of the type is secret; one that holds others is as they are
+abbrev pub is_secret_type : Redaction → ℕ → Bool
+is_secret_type redaction t =
+    not (is_container (ids.Plain t)) && is_among redaction.dictionary redaction.ids (ids.Plain t)
+
+-- attributes of the type are hidden: they are secret, the reply list has a hidden value that is sent with it, or it is
+-- that of Proxy-States, and those of the packet are hidden
+unfoldable pub hides_type : Redaction → List Pair → Bool → ℕ → Bool
+hides_type redaction replied hides_proxies t = elim redaction.secrets [
   | Shown ↦ false
-  | Hidden ↦ is_among redaction.dictionary redaction.ids (ids.Plain t)
-      || list_any (is_hidden_as redaction t) replied
+  | Hidden ↦ is_secret_type redaction t || list_any (is_hidden_as redaction t) replied
+      || (hides_proxies && t == proxy_state)
 ]
 
 -- ---- its octets
@@ -66,25 +75,29 @@ octet_at redaction (spot.Value left hidden) o =
     shown_octet hidden o ++ (if nat_le left 1 then codes "\"]" else [])
 
 -- the spot after it
-unfoldable pub spot_after : Redaction → List Pair → Spot → ℕ → Spot
-spot_after redaction replied (spot.Head k) o = if nat_lt k 3 then spot.Head (k + 1) else spot.Authenticator 0
-spot_after redaction replied (spot.Authenticator k) o =
+unfoldable pub spot_after : Redaction → List Pair → Bool → Spot → ℕ → Spot
+spot_after redaction replied hides_proxies (spot.Head k) o =
+    if nat_lt k 3 then spot.Head (k + 1) else spot.Authenticator 0
+spot_after redaction replied hides_proxies (spot.Authenticator k) o =
     if nat_lt k 15 then spot.Authenticator (k + 1) else spot.Type
-spot_after redaction replied spot.Type o = spot.Length (hides_type redaction replied o)
-spot_after redaction replied (spot.Length hidden) o =
+spot_after redaction replied hides_proxies spot.Type o =
+    spot.Length (hides_type redaction replied hides_proxies o)
+spot_after redaction replied hides_proxies (spot.Length hidden) o =
     if nat_le o 2 then spot.Type else spot.Value (o - 2) hidden
-spot_after redaction replied (spot.Value left hidden) o =
+spot_after redaction replied hides_proxies (spot.Value left hidden) o =
     if nat_le left 1 then spot.Type else spot.Value (left - 1) hidden
 
 -- octets from a spot on
-abbrev pub rows_from : Redaction → List Pair → Spot → List ℕ → List ℕ
-rows_from redaction replied at [] = []
-rows_from redaction replied at (o ∷ os) =
-    octet_at redaction at o ++ rows_from redaction replied (spot_after redaction replied at o) os
+abbrev pub rows_from : Redaction → List Pair → Bool → Spot → List ℕ → List ℕ
+rows_from redaction replied hides_proxies at [] = []
+rows_from redaction replied hides_proxies at (o ∷ os) = octet_at redaction at o
+    ++ rows_from redaction replied hides_proxies (spot_after redaction replied hides_proxies at o) os
 
 -- what is sent: null where no packet was made, false where none is sent, else the rows of its octets
 unfoldable pub reply_text : Redaction → List Pair → Reply → List ℕ
 reply_text redaction replied reply.Unmade = codes "null"
 reply_text redaction replied reply.Nothing = codes "false"
 reply_text redaction replied (reply.Packet octets) =
-    codes "[" ++ rows_from redaction replied (spot.Head 0) octets ++ codes "]"
+    codes "["
+    ++ rows_from redaction replied (sends_hidden_proxy_state redaction octets) (spot.Head 0) octets
+    ++ codes "]"

@@ -6,14 +6,15 @@ use Rattle.avp_lists.specs.declared.pairs.Pair.{Pair}
 use Rattle.avp_step.specs.Trace.{Entry, trace_of}
 use Rattle.radpolicy.specs.Starts.{Start, entry_of}
 use Rattle.radpolicy.specs.declared.run_outcomes.Reply.{Reply}
-use Rattle.radpolicy_common.specs.declared.change_texts.SecretValues.{SecretValues}
-use Rattle.radpolicy_common.specs.declared.change_texts.SecretValues.TheVariants.{Hidden, Shown}
+use Rattle.radpolicy_common.specs.declared.redactions.Hiding.{Hiding}
+use Rattle.radpolicy_common.specs.declared.redactions.SecretValues.{SecretValues}
+use Rattle.radpolicy_common.specs.declared.redactions.SecretValues.TheVariants.{Hidden, Shown}
 use Rattle.radpolicy_page_data.specs.Differences.{lists_at}
 use Rattle.radpolicy_page_data.specs.Embedding.{embedded, markup_text, string_text}
 use Rattle.radpolicy_page_data.specs.Packets.{reply_text}
-use Rattle.radpolicy_page_data.specs.Policies.{policy_shown}
+use Rattle.radpolicy_common.specs.PolicyTexts.{policy_shown}
 use Rattle.radpolicy_page_data.specs.Positions.{ArePositions, IsTooLarge}
-use Rattle.radpolicy_page_data.specs.Secrets.{AreSecret, Redaction, redacted}
+use Rattle.radpolicy_common.specs.Secrets.{IsRedactionOf as IsRedactionOfRuns, Redaction, pair_text}
 use Rattle.radpolicy_page_data.specs.declared.pages.Page.{Page}
 use Rattle.radpolicy_page_data.specs.declared.pages.TheConstants.{MAX_PAGE_OCTETS}
 
@@ -26,15 +27,14 @@ abbrev pub last_lists : List Entry → State
 last_lists trace = lists_at trace (length trace - 1)
 
 -- what is hidden of the run
-pub record IsRedactionOf (start : Start) (asked : SecretValues) (redaction : Redaction) : Type 0 where
-  pub dictionary : redaction.dictionary ≡ start.prepared.dictionary
-  pub secrets : redaction.secrets ≡ asked
-  pub ids : AreSecret start.prepared.dictionary start.prepared.statements redaction.ids
+abbrev pub IsRedactionOf : Start → Hiding → Redaction → Type 0
+IsRedactionOf start hiding redaction =
+    IsRedactionOfRuns start.prepared.dictionary start.prepared.statements hiding redaction
 
 -- ---- the lists at the end, as a text
 
 abbrev pub pair_line : Redaction → Pair → List ℕ
-pair_line redaction pair = codes "  " ++ redacted redaction pair ++ codes "\n"
+pair_line redaction pair = codes "  " ++ pair_text redaction pair ++ codes "\n"
 
 abbrev pub list_lines : Redaction → List ℕ → List Pair → List ℕ
 list_lines redaction name pairs = name ++ codes "\n" ++ flat_map (pair_line redaction) pairs
@@ -58,10 +58,10 @@ data_text redaction policy positions sent =
     ++ codes ",\"positions\":[" ++ positions ++ codes "],\"reply\":" ++ sent ++ codes "}"
 
 -- the page of a run with this policy's text, which sends this
-pub record IsPage (start : Start) (secrets : SecretValues) (policy : List ℕ) (reply : Reply) (page : Page) : Type 0 where
+pub record IsPage (start : Start) (hiding : Hiding) (policy : List ℕ) (reply : Reply) (page : Page) : Type 0 where
   pub redaction : Redaction
   pub positions : List ℕ
-  pub redacts : IsRedactionOf start secrets redaction
+  pub redacts : IsRedactionOf start hiding redaction
   pub are : ArePositions redaction (trace_from start) (length (trace_from start)) positions
   pub run : page.run.items ≡ embedded (data_text redaction policy positions
       (reply_text redaction (last_lists (trace_from start)).reply reply))
@@ -72,11 +72,11 @@ abbrev pub octets_of : Page → ℕ
 octets_of page = length page.run.items + length page.lists.items
 
 -- some first positions of the run are too large for a page
-abbrev pub ArePositionsTooLarge : Start → SecretValues → Type 0
-ArePositionsTooLarge start secrets = (redaction : Redaction)
-    × IsRedactionOf start secrets redaction × IsTooLarge redaction (trace_from start)
+abbrev pub ArePositionsTooLarge : Start → Hiding → Type 0
+ArePositionsTooLarge start hiding = (redaction : Redaction)
+    × IsRedactionOf start hiding redaction × IsTooLarge redaction (trace_from start)
 
 -- they are, or its page is too large
-abbrev pub IsTooLargeFor : Start → SecretValues → List ℕ → Reply → Type 0
-IsTooLargeFor start secrets policy reply = ArePositionsTooLarge start secrets
-    ⊎ ((page : Page) × IsPage start secrets policy reply page × (MAX_PAGE_OCTETS < octets_of page))
+abbrev pub IsTooLargeFor : Start → Hiding → List ℕ → Reply → Type 0
+IsTooLargeFor start hiding policy reply = ArePositionsTooLarge start hiding
+    ⊎ ((page : Page) × IsPage start hiding policy reply page × (MAX_PAGE_OCTETS < octets_of page))

@@ -7,7 +7,7 @@ use Rattle.radpolicy.specs.Reports.{code_text}
 use Rattle.radpolicy.specs.Scripts.{label_text}
 use Rattle.radpolicy_page_data.specs.Differences.{Makes, entry_at}
 use Rattle.radpolicy_page_data.specs.Embedding.{string_text}
-use Rattle.radpolicy_page_data.specs.Secrets.{Redaction, redacted}
+use Rattle.radpolicy_common.specs.Secrets.{Redaction, pair_text}
 use Rattle.radpolicy_page_data.specs.declared.differences.Difference.{Difference}
 use Rattle.radpolicy_page_data.specs.declared.differences.Difference.TheVariants.{Again, Spliced}
 use Rattle.radpolicy_page_data.specs.declared.positions.TheConstants.{MAX_POSITIONS_TEXT}
@@ -15,7 +15,7 @@ use Rattle.radpolicy_page_data.specs.declared.splices.Splice.{Splice}
 
 -- a pair that came
 abbrev pub pair_item : Redaction → Pair → List ℕ
-pair_item redaction pair = codes "," ++ string_text (redacted redaction pair)
+pair_item redaction pair = codes "," ++ string_text (pair_text redaction pair)
 
 -- a splice as an array: its place, how many pairs are gone, and those that came
 abbrev pub splice_text : Redaction → Splice → List ℕ

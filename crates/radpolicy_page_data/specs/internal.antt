@@ -1,3 +1,2 @@
-pub mod PolicyLines
 pub mod Marks
 pub mod Writing

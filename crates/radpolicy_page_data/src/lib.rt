@@ -6,18 +6,11 @@ mod differences;
 mod faults;
 mod json;
 mod markup;
-mod matchings;
 mod packets;
 mod pages;
-mod policies;
 mod positions;
-mod redactions;
-mod secrets;
 mod splices;
 
 pub use faults::PageFault;
 pub use pages::{Page, page_of};
-pub use policies::policy_shown;
-pub use redactions::Redaction;
-pub use secrets::secret_attributes;
 pub use splices::Splice;

@@ -4,13 +4,13 @@ ghost use Rattle.std.specs.Prelude.{◌≡◌, ◌++◌, [], OnOk, codes, if◌t
 ghost use Rattle.std.specs.List.{list_any};
 ghost use Rattle.radpolicy_page_data.specs.Embedding.{string_text, two_digits};
 ghost use Rattle.radpolicy_page_data.specs.declared.packets.Spot.TheVariants as spot;
-ghost use Rattle.radpolicy_page_data.specs.Packets.{hides_type, is_hidden_as, octet_at, reply_text, row_octet, rows_from, shown_octet, spot_after, type_name, type_of};
+ghost use Rattle.radpolicy_page_data.specs.Packets.{hides_type, is_hidden_as, is_secret_type, octet_at, reply_text, row_octet, rows_from, shown_octet, spot_after, type_name, type_of};
 
 use crate::json::{push_number, push_string, push_two_digits};
-use crate::redactions::Redaction;
+use avp_dict::is_container;
 use avp_lists::{AttrId, Pair};
 use radpolicy::Reply;
-use radpolicy_common::SecretValues;
+use radpolicy_common::{Redaction, SecretValues, sends_hidden_proxy_state};
 use std::alloc::AllocError;
 
 /// A spot in a packet.
@@ -28,6 +28,8 @@ pub enum Spot {
     Value(u8, bool),
 }
 
+const PROXY_STATE: u8 = 33;
+
 // The type with which an attribute is sent.
 fn type_of(id: AttrId) -> u32
     ensures { result ≡ type_of id }
@@ -39,30 +41,40 @@ fn type_of(id: AttrId) -> u32
     }
 }
 
-impl Redaction<'_> {
-    fn is_hidden_as(&self, kind: u8, pair: &Pair) -> bool
-        ensures { result ≡ is_hidden_as self.now kind pair.now }
-    {
-        type_of(pair.id) == u32::from(kind) && self.hides(pair.id, &pair.value)
-    }
+fn is_hidden_as(redaction: &Redaction<'_>, kind: u8, pair: &Pair) -> bool
+    ensures { result ≡ is_hidden_as redaction.now kind pair.now }
+{
+    type_of(pair.id) == u32::from(kind) && redaction.hides(pair.id, &pair.value)
+}
 
-    fn is_any_hidden_as(&self, kind: u8, replied: &[Pair]) -> bool
-        ensures { result ≡ list_any (is_hidden_as self.now kind) replied.now }
-    {
-        replied.iter().any(|pair| self.is_hidden_as(kind, pair))
-    }
+fn is_any_hidden_as(redaction: &Redaction<'_>, kind: u8, replied: &[Pair]) -> bool
+    ensures { result ≡ list_any (is_hidden_as redaction.now kind) replied.now }
+{
+    replied
+        .iter()
+        .any(|pair| is_hidden_as(redaction, kind, pair))
+}
 
-    // Whether attributes of a type are hidden.
-    #[tactic(auto, unfolding(crate::specs::Packets::hides_type))]
-    fn hides_type(&self, replied: &[Pair], kind: u8) -> bool
-        ensures { result ≡ hides_type self.now replied.now kind }
-    {
-        match self.secrets() {
-            SecretValues::Shown => false,
-            SecretValues::Hidden => {
-                self.is_secret(AttrId::Plain(u32::from(kind)))
-                    || self.is_any_hidden_as(kind, replied)
-            }
+// Whether each attribute of a type is secret. Of those that hold others the reply list has what they hold, or, where they
+// were not split, themselves.
+fn is_secret_type(redaction: &Redaction<'_>, kind: u8) -> bool
+    ensures { result ≡ is_secret_type redaction.now kind }
+{
+    let id = AttrId::Plain(u32::from(kind));
+    !is_container(id) && redaction.is_secret(id)
+}
+
+// Whether attributes of a type are hidden.
+#[tactic(auto, unfolding(crate::specs::Packets::hides_type))]
+fn hides_type(redaction: &Redaction<'_>, replied: &[Pair], hides_proxies: bool, kind: u8) -> bool
+    ensures { result ≡ hides_type redaction.now replied.now hides_proxies kind }
+{
+    match redaction.secrets() {
+        SecretValues::Shown => false,
+        SecretValues::Hidden => {
+            is_secret_type(redaction, kind)
+                || is_any_hidden_as(redaction, kind, replied)
+                || hides_proxies && kind == PROXY_STATE
         }
     }
 }
@@ -157,15 +169,21 @@ fn push_octet_at(
 }
 
 #[tactic(auto, unfolding(crate::specs::Packets::spot_after))]
-fn spot_after(redaction: &Redaction<'_>, replied: &[Pair], at: Spot, octet: u8) -> Spot
-    ensures { result ≡ spot_after redaction.now replied.now at octet }
+fn spot_after(
+    redaction: &Redaction<'_>,
+    replied: &[Pair],
+    hides_proxies: bool,
+    at: Spot,
+    octet: u8,
+) -> Spot
+    ensures { result ≡ spot_after redaction.now replied.now hides_proxies at octet }
 {
     match at {
         Spot::Head(place) if place < 3 => Spot::Head(place + 1),
         Spot::Head(_) => Spot::Authenticator(0),
         Spot::Authenticator(place) if place < 15 => Spot::Authenticator(place + 1),
         Spot::Authenticator(_) => Spot::Type,
-        Spot::Type => Spot::Length(redaction.hides_type(replied, octet)),
+        Spot::Type => Spot::Length(hides_type(redaction, replied, hides_proxies, octet)),
         Spot::Length(_) if octet <= 2 => Spot::Type,
         Spot::Length(hidden) => Spot::Value(octet - 2, hidden),
         Spot::Value(left, _) if left <= 1 => Spot::Type,
@@ -177,15 +195,16 @@ fn push_rows(
     text: &mut Vec<u8>,
     redaction: &Redaction<'_>,
     replied: &[Pair],
+    hides_proxies: bool,
     octets: &[u8],
 ) -> Result<(), AllocError>
     ensures { OnOk result (text.new.items ≡ text.old.items
-        ++ rows_from redaction.now replied.now (spot.Head 0) octets.now) }
+        ++ rows_from redaction.now replied.now hides_proxies (spot.Head 0) octets.now) }
 {
     let mut at = Spot::Head(0);
     for octet in octets {
         push_octet_at(text, redaction, at, *octet)?;
-        at = spot_after(redaction, replied, at, *octet);
+        at = spot_after(redaction, replied, hides_proxies, at, *octet);
     }
     Ok(())
 }
@@ -206,8 +225,10 @@ pub(crate) fn push_reply(
         Reply::Unmade => text.extend_from_slice(b"null"),
         Reply::Nothing => text.extend_from_slice(b"false"),
         Reply::Packet(octets) => {
+            let octets = octets.as_slice();
+            let hides_proxies = sends_hidden_proxy_state(redaction, octets);
             text.extend_from_slice(b"[")?;
-            push_rows(text, redaction, replied, octets.as_slice())?;
+            push_rows(text, redaction, replied, hides_proxies, octets)?;
             text.extend_from_slice(b"]")
         }
     }

@@ -12,12 +12,10 @@ use crate::faults::PageFault;
 use crate::json::{embedded, push_string};
 use crate::markup::markup_text;
 use crate::packets::push_reply;
-use crate::policies::policy_shown;
 use crate::positions::positions_text;
-use crate::redactions::Redaction;
 use avp_lists::{Pair, State};
 use radpolicy::{Reply, Start};
-use radpolicy_common::SecretValues;
+use radpolicy_common::{Hiding, Redaction, SecretValues, policy_shown};
 use std::alloc::{AllocError, Global};
 
 /// The octets that the parts of a page have at most. The rest of it is fixed, and has fewer than 100,000.
@@ -165,17 +163,17 @@ pub fn page_of(
     start: Start<'_>,
     reply: &Reply,
     policy: &[u8],
-    secrets: SecretValues,
+    hiding: Hiding<'_>,
 ) -> Result<Page, PageFault>
-    ensures page { IfOk result (IsPage start.entry secrets policy.now reply.now) }
+    ensures page { IfOk result (IsPage start.entry hiding.entry policy.now reply.now) }
     // What is embedded is printed ASCII without < > &.
     ensures embeddable { IfOk result (λ page. are_embeddable page.run.items ≡ true) }
     ensures no_tag { IfOk result (λ page. list_all is_no_tag page.lists.items ≡ true) }
     ensures size { IfOk result (λ page. octets_of page ≤ MAX_PAGE_OCTETS) }
     ensures refused { IfErr result (λ fault. fault ≡ PageFault.TooLarge
-        → IsTooLargeFor start.entry secrets policy.now reply.now) }
+        → IsTooLargeFor start.entry hiding.entry policy.now reply.now) }
 {
-    let redaction = Redaction::new(alloc, start.dictionary(), start.policy(), secrets)?;
+    let redaction = Redaction::new(alloc, start.dictionary(), hiding, &[start.policy()])?;
     let mut stepper = start.stepper(alloc)?;
     let told = positions_text(alloc, &redaction, &mut stepper)?;
     let page = page_with(alloc, &redaction, policy, &told.0, &told.1, reply)?;

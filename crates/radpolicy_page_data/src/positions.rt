@@ -11,18 +11,18 @@ ghost use Rattle.radpolicy.specs.Scripts.{label_text};
 ghost use Rattle.radpolicy_page_data.specs.Differences.{lists_at};
 ghost use Rattle.radpolicy_page_data.specs.Embedding.{string_text};
 ghost use Rattle.radpolicy_page_data.specs.Positions.{ArePositions, IsTooLarge, difference_text, pair_item, position_text, separator, splice_text};
-ghost use Rattle.radpolicy_page_data.specs.Secrets.{Redaction as Shown};
+ghost use Rattle.radpolicy_common.specs.Secrets.{Redaction as Shown};
 ghost use Rattle.radpolicy_page_data.specs.internal.Marks.{AreMarks, IsMarkIfGiven};
 ghost use Rattle.radpolicy_page_data.specs.internal.Writing.{DifferenceFits, IsWritten};
 
 use crate::differences::{Difference, Mark, copy_of, difference_of};
 use crate::faults::PageFault;
 use crate::json::{push_number, push_string};
-use crate::redactions::Redaction;
 use crate::splices::Splice;
 use avp_lists::{List, Pair, Pairs, SlotStore, State, Store};
 use avp_step::{Label, Moved, Stepper};
 use radpolicy::{code_text, push_label};
+use radpolicy_common::Redaction;
 use std::alloc::{AllocError, Global};
 
 /// The most octets of the positions that are written.

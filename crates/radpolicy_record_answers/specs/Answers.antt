@@ -1,9 +1,8 @@
 -- What a policy answers to a packet, and what is said of it.
-use Rattle.std.specs.Prelude.{ℕ, Bool, false, if◌then◌else◌, List, [], ◌++◌, codes, decimal, Option, None, Some, Result, Ok, Err}
+use Rattle.std.specs.Prelude.{ℕ, Bool, false, ◌||◌, if◌then◌else◌, List, [], ◌++◌, codes, decimal, Option, None, Some, Result, Ok, Err}
 use Rattle.std.specs.List.{list_any}
 use Rattle.hex.specs.Hex.{encode_lower}
 use Rattle.avp_lists.specs.declared.pairs.Pair.{Pair}
-use Rattle.avp_dict.specs.Dictionary.{Dictionary}
 use Rattle.avp_dict.specs.declared.request.faults.LineFault.{LineFault}
 use Rattle.avp_packet.specs.Decoded.{decoded}
 use Rattle.avp_packet.specs.declared.faults.PacketFault.{PacketFault}
@@ -19,9 +18,8 @@ use Rattle.radpolicy.specs.declared.faults.Fault.TheVariants as fault
 use Rattle.radpolicy.specs.declared.jobs.Form.TheVariants.{Hex}
 use Rattle.radpolicy.specs.declared.run_outcomes.Reply.{Reply}
 use Rattle.radpolicy.specs.declared.run_outcomes.Reply.TheVariants as reply
-use Rattle.radpolicy_common.specs.declared.change_texts.SecretValues.{SecretValues}
-use Rattle.radpolicy_common.specs.declared.change_texts.SecretValues.TheVariants.{Hidden, Shown}
-use Rattle.radpolicy_common.specs.SecretAttributes.{is_secret}
+use Rattle.radpolicy_common.specs.ProxyStates.{sends_hidden_proxy_state}
+use Rattle.radpolicy_common.specs.Secrets.{Redaction, hides}
 use Rattle.radpolicy_record_answers.specs.declared.answers.RecordFault.{RecordFault}
 use Rattle.radpolicy_record_answers.specs.declared.answers.RecordFault.TheVariants.{ControlList, NoClient, ReplyList, Request, Text}
 use Rattle.radpolicy_traffic_packets.specs.declared.faults.TextFault.{TextFault}
@@ -52,14 +50,22 @@ answered_record (Err f) = Err (Request f)
 
 -- ---- what is said of them
 
-abbrev pub has_secret : Dictionary → List Pair → Bool
-has_secret dictionary pairs = list_any (λ pair. is_secret pair.id pair.value dictionary) pairs
+abbrev pub has_hidden : Redaction → List Pair → Bool
+has_hidden redaction pairs = list_any (λ pair. hides redaction pair.id pair.value) pairs
+
+-- a value of the reply list is not to be shown
+abbrev pub hides_pairs : Redaction → End → Bool
+hides_pairs redaction end = has_hidden redaction (reply_pairs end.code end.state.reply)
+
+-- a Proxy-State is not to be shown: a reply has those of its request
+abbrev pub hides_proxy_state : Redaction → Reply → Bool
+hides_proxy_state redaction (reply.Packet octets) = sends_hidden_proxy_state redaction octets
+hides_proxy_state redaction _ = false
 
 -- a value of the reply is not to be shown
-abbrev pub hides_reply : Dictionary → SecretValues → End → Bool
-hides_reply dictionary Shown end = false
-hides_reply dictionary Hidden end =
-    has_secret dictionary (reply_pairs end.code end.state.reply)
+abbrev pub hides_reply : Redaction → RunOutcome → Bool
+hides_reply redaction outcome =
+    hides_pairs redaction outcome.end || hides_proxy_state redaction outcome.reply
 
 -- the reply in hexadecimal digits, or (secret) where it holds a value that is not to be shown
 abbrev pub reply_shown : Bool → Reply → List ℕ
@@ -71,9 +77,9 @@ reply_shown hides _ = codes "none"
 abbrev pub result_shown : End → List ℕ
 result_shown end = code_text end.code ++ (if end.stopped then codes " stopped" else [])
 
-abbrev pub outcome_shown : Dictionary → SecretValues → RunOutcome → List ℕ
-outcome_shown dictionary secrets outcome = result_shown outcome.end ++ codes " "
-    ++ reply_shown (hides_reply dictionary secrets outcome.end) outcome.reply
+abbrev pub outcome_shown : Redaction → RunOutcome → List ℕ
+outcome_shown redaction outcome = result_shown outcome.end ++ codes " "
+    ++ reply_shown (hides_reply redaction outcome) outcome.reply
 
 -- the number of a fault, and its words
 abbrev pub fault_shown : Fault → List ℕ
@@ -100,6 +106,6 @@ refusal_shown (ReplyList f) = codes "reply list " ++ lines_fault_shown f
 refusal_shown (ControlList f) = codes "control list " ++ lines_fault_shown f
 
 -- what is said of an answer
-abbrev pub answer_shown : Dictionary → SecretValues → Result RunOutcome RecordFault → List ℕ
-answer_shown dictionary secrets (Ok outcome) = outcome_shown dictionary secrets outcome
-answer_shown dictionary secrets (Err f) = refusal_shown f
+abbrev pub answer_shown : Redaction → Result RunOutcome RecordFault → List ℕ
+answer_shown redaction (Ok outcome) = outcome_shown redaction outcome
+answer_shown redaction (Err f) = refusal_shown f

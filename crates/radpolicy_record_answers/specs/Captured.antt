@@ -19,11 +19,10 @@ use Rattle.radpolicy.specs.declared.faults.Fault.{Fault}
 use Rattle.radpolicy.specs.declared.faults.Fault.TheVariants as fault
 use Rattle.radpolicy.specs.declared.run_outcomes.Reply.{Reply}
 use Rattle.radpolicy.specs.declared.run_outcomes.Reply.TheVariants as reply
-use Rattle.radpolicy_common.specs.ChangeTexts.{pair_text}
-use Rattle.radpolicy_common.specs.declared.change_texts.SecretValues.{SecretValues}
+use Rattle.radpolicy_common.specs.Secrets.{Redaction}
 use Rattle.radpolicy_record_answers.specs.Answers.{fault_shown, refusal_shown, text_fault_shown}
 use Rattle.radpolicy_record_answers.specs.Comparisons.{AreSame, compared, same_lists}
-use Rattle.radpolicy_record_answers.specs.Differences.{added_line, list_change, named_change, removed_line}
+use Rattle.radpolicy_record_answers.specs.Differences.{added_line, list_change, named_change, pair_line, removed_line}
 use Rattle.radpolicy_record_answers.specs.Records.{is_packet_word, line_words, octets_decoded, request_taken}
 use Rattle.radpolicy_record_answers.specs.Requests.{answered_from}
 use Rattle.radpolicy_record_answers.specs.UnmadeReplies.{unmade_reply}
@@ -219,19 +218,19 @@ captured_fault_shown OtherRequest = codes "captured reply to another request"
 captured_fault_shown (Text f) = captured_text_shown f
 
 -- a pair of the reply that was captured, on a line of its own
-abbrev pub captured_line : Dictionary → SecretValues → Pair → List ℕ
-captured_line dictionary secrets pair = codes "    " ++ pair_text dictionary secrets pair
+abbrev pub captured_line : Dictionary → Redaction → Pair → List ℕ
+captured_line dictionary redaction pair = codes "    " ++ pair_line dictionary redaction pair
 
 -- the lines of that reply's list
-abbrev pub captured_lines : Dictionary → SecretValues → Packet → List ℕ
-captured_lines dictionary secrets captured =
-    flat_map (captured_line dictionary secrets) captured.list
+abbrev pub captured_lines : Dictionary → Redaction → Packet → List ℕ
+captured_lines dictionary redaction captured =
+    flat_map (captured_line dictionary redaction) captured.list
 
 -- the same below their name, where the replies that were captured are shown
-abbrev pub captured_list : SecretValues → Dictionary → Comparison → Packet → List ℕ
-captured_list secrets dictionary comparison captured =
+abbrev pub captured_list : Redaction → Dictionary → Comparison → Packet → List ℕ
+captured_list redaction dictionary comparison captured =
     if comparison.shows_replies
-    then named_change (codes "captured") (captured_lines dictionary secrets captured) else []
+    then named_change (codes "captured") (captured_lines dictionary redaction captured) else []
 
 -- a record that is not different, which has no line unless all are told
 abbrev pub quietly_told : Told → List ℕ → List ℕ → List ℕ
@@ -251,41 +250,41 @@ packets_change removed added comparison captured own =
     named_change (codes "reply") (packets_lines removed added comparison captured own)
 
 -- the same, where both sent one
-abbrev pub replies_change : SecretValues → Dictionary → Comparison → Packet → Option Packet → List ℕ
-replies_change secrets dictionary comparison captured None = []
-replies_change secrets dictionary comparison captured (Some own) =
-    packets_change (removed_line dictionary secrets) (added_line dictionary secrets) comparison
+abbrev pub replies_change : Redaction → Dictionary → Comparison → Packet → Option Packet → List ℕ
+replies_change redaction dictionary comparison captured None = []
+replies_change redaction dictionary comparison captured (Some own) =
+    packets_change (removed_line dictionary redaction) (added_line dictionary redaction) comparison
     captured own
 
 -- a record whose replies are the same, which has no line unless all are told either
-abbrev pub same_reply_told : SecretValues → Dictionary → Comparison → Told → List ℕ → Packet
+abbrev pub same_reply_told : Redaction → Dictionary → Comparison → Told → List ℕ → Packet
     → List ℕ
-same_reply_told secrets dictionary comparison Different name captured = []
-same_reply_told secrets dictionary comparison All name captured =
+same_reply_told redaction dictionary comparison Different name captured = []
+same_reply_told redaction dictionary comparison All name captured =
     name ++ reply_name captured.code ++ codes "\n"
-    ++ captured_list secrets dictionary comparison captured
+    ++ captured_list redaction dictionary comparison captured
 
-abbrev pub other_reply_told : SecretValues → Dictionary → Comparison → List ℕ → Packet
+abbrev pub other_reply_told : Redaction → Dictionary → Comparison → List ℕ → Packet
     → Option Packet → List ℕ
-other_reply_told secrets dictionary comparison name captured own =
+other_reply_told redaction dictionary comparison name captured own =
     name ++ reply_name captured.code ++ codes " -> " ++ own_name own ++ codes "\n"
-    ++ captured_list secrets dictionary comparison captured
-    ++ replies_change secrets dictionary comparison captured own
+    ++ captured_list redaction dictionary comparison captured
+    ++ replies_change redaction dictionary comparison captured own
 
 -- what is said of the replies to the record of this name
-unfoldable pub replies_told : SecretValues → Dictionary → Comparison → List ℕ → Replies → List ℕ
-replies_told secrets dictionary comparison name (Refused f) =
+unfoldable pub replies_told : Redaction → Dictionary → Comparison → List ℕ → Replies → List ℕ
+replies_told redaction dictionary comparison name (Refused f) =
     quietly_told comparison.told name (refusal_shown f)
-replies_told secrets dictionary comparison name Unanswered =
+replies_told redaction dictionary comparison name Unanswered =
     quietly_told comparison.told name (codes "unanswered")
-replies_told secrets dictionary comparison name (Unread f) =
+replies_told redaction dictionary comparison name (Unread f) =
     quietly_told comparison.told name (captured_fault_shown f)
-replies_told secrets dictionary comparison name Challenge =
+replies_told redaction dictionary comparison name Challenge =
     quietly_told comparison.told name (codes "Access-Challenge")
-replies_told secrets dictionary comparison name (Both captured own) =
+replies_told redaction dictionary comparison name (Both captured own) =
     if same_replies comparison captured own
-    then same_reply_told secrets dictionary comparison comparison.told name captured
-    else other_reply_told secrets dictionary comparison name captured own
+    then same_reply_told redaction dictionary comparison comparison.told name captured
+    else other_reply_told redaction dictionary comparison name captured own
 
 -- what became of the record
 unfoldable pub verdict_of_replies : Comparison → Replies → Verdict

@@ -8,8 +8,9 @@ use Rattle.avp_lists.specs.declared.pairs.AttrId.{AttrId}
 use Rattle.avp_lists.specs.declared.pairs.Pair.{Pair}
 use Rattle.avp_dict.specs.Dictionary.{Dictionary}
 use Rattle.radpolicy.specs.RunOutcomes.{RunOutcome}
-use Rattle.radpolicy_common.specs.ChangeTexts.{pair_text}
-use Rattle.radpolicy_common.specs.declared.change_texts.SecretValues.{SecretValues}
+use Rattle.avp_forms.specs.Printing.{printed_pair_name, printed_pair_text}
+use Rattle.avp_forms.specs.declared.profiles.Profile.TheVariants.{Wider}
+use Rattle.radpolicy_common.specs.Secrets.{Redaction, hides}
 use Rattle.radpolicy_record_answers.specs.Answers.{refusal_shown, result_shown}
 use Rattle.radpolicy_record_answers.specs.Comparisons.{compared_list, ids_of, pairs_eq, same_answers}
 use Rattle.radpolicy_record_answers.specs.declared.answers.RecordFault.{RecordFault}
@@ -23,15 +24,24 @@ use Rattle.radpolicy_record_answers.specs.declared.verdicts.Verdict.TheVariants 
 
 -- ---- lists
 
+-- the text of a value by this dictionary, or (hidden)
+abbrev pub value_shown : Dictionary → Redaction → Pair → List ℕ
+value_shown dictionary redaction pair =
+    if hides redaction pair.id pair.value then codes "(hidden)"
+    else printed_pair_text Wider pair.id pair.value dictionary
+
+-- a pair by this dictionary, with its line feed
+abbrev pub pair_line : Dictionary → Redaction → Pair → List ℕ
+pair_line dictionary redaction pair = printed_pair_name Wider pair.id pair.value dictionary
+    ++ codes " = " ++ value_shown dictionary redaction pair ++ codes "\n"
+
 -- a pair that the old list alone has, by the dictionary of the old policy
-abbrev pub removed_line : Dictionary → SecretValues → Pair → List ℕ
-removed_line dictionary secrets pair =
-    codes "  " ++ codes "- " ++ pair_text dictionary secrets pair
+abbrev pub removed_line : Dictionary → Redaction → Pair → List ℕ
+removed_line dictionary redaction pair = codes "  - " ++ pair_line dictionary redaction pair
 
 -- a pair that the new list alone has, by that of the new one
-abbrev pub added_line : Dictionary → SecretValues → Pair → List ℕ
-added_line dictionary secrets pair =
-    codes "  " ++ codes "+ " ++ pair_text dictionary secrets pair
+abbrev pub added_line : Dictionary → Redaction → Pair → List ℕ
+added_line dictionary redaction pair = codes "  + " ++ pair_line dictionary redaction pair
 
 -- two lists, each pair by its line, where they are not equal
 abbrev pub pairs_change : (Pair → List ℕ) → (Pair → List ℕ) → List Pair → List Pair → List ℕ
@@ -64,18 +74,18 @@ named_change name [] = []
 named_change name (o ∷ os) = codes "  " ++ name ++ codes "\n" ++ o ∷ os
 
 -- how a list at the end of two runs differs
-abbrev pub change_of : SecretValues → Comparison → Name → RunOutcome → RunOutcome → List ℕ
-change_of secrets comparison list old new =
-    list_change (removed_line old.dictionary secrets) (added_line new.dictionary secrets)
+abbrev pub change_of : Redaction → Comparison → Name → RunOutcome → RunOutcome → List ℕ
+change_of redaction comparison list old new =
+    list_change (removed_line old.dictionary redaction) (added_line new.dictionary redaction)
     comparison.order (compared_list comparison list old.end) (compared_list comparison list new.end)
 
 -- how the reply and control lists differ, where both ran
-abbrev pub changes_of : SecretValues → Comparison → Result RunOutcome RecordFault
+abbrev pub changes_of : Redaction → Comparison → Result RunOutcome RecordFault
     → Result RunOutcome RecordFault → List ℕ
-changes_of secrets comparison (Ok old) (Ok new) =
-    named_change (codes "reply") (change_of secrets comparison Reply old new)
-    ++ named_change (codes "control") (change_of secrets comparison Control old new)
-changes_of secrets comparison _ _ = []
+changes_of redaction comparison (Ok old) (Ok new) =
+    named_change (codes "reply") (change_of redaction comparison Reply old new)
+    ++ named_change (codes "control") (change_of redaction comparison Control old new)
+changes_of redaction comparison _ _ = []
 
 -- a record that is answered alike, which has no line unless all are told
 abbrev pub same_told : Told → List ℕ → Result RunOutcome RecordFault → List ℕ
@@ -83,18 +93,18 @@ same_told Different name answer = []
 same_told All name answer = name ++ result_or_fault answer ++ codes "\n"
 
 -- a record that is not
-abbrev pub difference_told : SecretValues → Comparison → List ℕ → Result RunOutcome RecordFault
+abbrev pub difference_told : Redaction → Comparison → List ℕ → Result RunOutcome RecordFault
     → Result RunOutcome RecordFault → List ℕ
-difference_told secrets comparison name old new =
+difference_told redaction comparison name old new =
     name ++ result_or_fault old ++ codes " -> " ++ result_or_fault new ++ codes "\n"
-    ++ changes_of secrets comparison old new
+    ++ changes_of redaction comparison old new
 
 -- what is said of the answers to the record of this name
-unfoldable pub answers_told : SecretValues → Comparison → List ℕ → Result RunOutcome RecordFault
+unfoldable pub answers_told : Redaction → Comparison → List ℕ → Result RunOutcome RecordFault
     → Result RunOutcome RecordFault → List ℕ
-answers_told secrets comparison name old new =
+answers_told redaction comparison name old new =
     if same_answers comparison old new then same_told comparison.told name new
-    else difference_told secrets comparison name old new
+    else difference_told redaction comparison name old new
 
 abbrev pub verdict_of_same : Result RunOutcome RecordFault → Verdict
 verdict_of_same (Ok _) = verdict.Same

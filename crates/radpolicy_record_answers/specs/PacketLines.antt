@@ -1,8 +1,8 @@
 -- Records as lines of packets.
-use Rattle.std.specs.Prelude.{ℕ, ◌==◌, Bool, false, not, ◌&&◌, if◌then◌else◌, List, [], ◌∷◌, ◌++◌, codes, length, Result, Ok, Err}
+use Rattle.std.specs.Prelude.{ℕ, ◌-◌, ◌==◌, Bool, false, not, ◌&&◌, ◌||◌, if◌then◌else◌, List, [], ◌∷◌, ◌++◌, codes, length, take, Result, Ok, Err}
 use Rattle.hex.specs.Hex.{encode_lower}
 use Rattle.radpolicy_record_answers.specs.Answers.{refusal_shown}
-use Rattle.radpolicy_record_answers.specs.Records.{or_number}
+use Rattle.radpolicy_record_answers.specs.Records.{is_name, is_packet_word, is_source, or_number}
 use Rattle.radpolicy_record_answers.specs.declared.answers.RecordFault.{RecordFault}
 use Rattle.radpolicy_record_answers.specs.declared.captured.CapturedReply.{CapturedReply}
 use Rattle.radpolicy_record_answers.specs.declared.captured.CapturedReply.TheVariants.{Challenge, Missing, Octets, Unread}
@@ -41,7 +41,20 @@ after_name source reply (Ok request) =
     if is_alone request then packets_shown source request.octets reply
     else codes "initial lists"
 
+-- the word of a name, which a space ends
+abbrev pub word_of_name : List ℕ → List ℕ
+word_of_name name = take (length name - 1) name
+
+-- a name that would be read as the packet of its line, as its source or as no name
+abbrev pub is_misread : List ℕ → Bool
+is_misread name = is_packet_word (word_of_name name) || is_source (word_of_name name)
+    || not (is_name (word_of_name name))
+
+-- a name as a line of packets has it: one that would be misread is left out
+abbrev pub name_in_line : List ℕ → List ℕ
+name_in_line name = if is_misread name then [] else name
+
 -- the line of a record with this number, from this source
 abbrev pub packet_line : ℕ → List ℕ → Entry → List ℕ
-packet_line number source entry = or_number number entry.identifier
+packet_line number source entry = or_number number (name_in_line entry.identifier)
     ++ after_name source entry.reply entry.request ++ codes "\n"

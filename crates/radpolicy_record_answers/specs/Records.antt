@@ -1,7 +1,7 @@
--- What the line of a record says: words that name it, the request's packet, and the reply that was sent.
-use Rattle.std.specs.Prelude.{ℕ, ◌==◌, Bool, true, false, not, ◌&&◌, ◌||◌, nat_le, nat_lt, if◌then◌else◌, List, [], ◌∷◌, ◌++◌, codes, decimal, drop, filter, find, length, slice_index, Option, None, Some, Result, Ok, Err}
-use Rattle.std.specs.List.{count_by, flat_map, list_all, slice_split}
-use Rattle.std.specs.Option.{option_and_then}
+-- What the line of a record says: a word that names it, the request's packet, and the reply that was sent.
+use Rattle.std.specs.Prelude.{ℕ, ◌==◌, Bool, true, false, not, ◌&&◌, ◌||◌, nat_eq, nat_le, nat_lt, if◌then◌else◌, List, [], ◌∷◌, ◌++◌, codes, decimal, drop, filter, find, length, slice_index, Option, None, Some, Result, Ok, Err}
+use Rattle.std.specs.List.{count_by, flat_map, list_all, list_any, slice_split}
+use Rattle.std.specs.Option.{option_and, option_and_then, option_map_or}
 use Rattle.std.specs.declared.net.ip_addr.IpAddr.{IpAddr}
 use Rattle.hex.specs.Hex.{decode_of, is_hex_digit}
 use Rattle.hex.specs.declared.error.FromHexError.{FromHexError}
@@ -86,9 +86,24 @@ octet_shown o = if nat_le 33 o && nat_le o 126 then o ∷ [] else octal_escape o
 abbrev pub word_shown : List ℕ → List ℕ
 word_shown word = flat_map octet_shown word ++ codes " "
 
--- the words before the first packet that are no source
+-- the word that names a record: the first that is no source before its packet; words without a packet name none
+abbrev pub name_word : List (List ℕ) → Option (List ℕ)
+name_word words =
+    option_and (find is_packet_word words) (find is_no_source (words_before words))
+
+-- octets of what logs and configurations say, and of no name
+unfoldable pub is_no_name_octet : ℕ → Bool
+is_no_name_octet o = list_any (nat_eq o) (codes "=\"'[/")
+
+abbrev pub is_name : List ℕ → Bool
+is_name word = not (list_any is_no_name_octet word)
+
+-- a word that names nothing is not shown
+abbrev pub name_shown : List ℕ → List ℕ
+name_shown word = if is_name word then word_shown word else []
+
 abbrev pub identifier_shown : List (List ℕ) → List ℕ
-identifier_shown words = flat_map word_shown (filter is_no_source (words_before words))
+identifier_shown words = option_map_or name_shown (name_word words) []
 
 abbrev pub is_too_long : List ℕ → Bool
 is_too_long line = nat_lt MAX_LINE_OCTETS (length line)

@@ -9,7 +9,7 @@ use Rattle.avp_forms.specs.Requests.{request_written}
 use Rattle.avp_forms.specs.declared.profiles.Profile.TheVariants.{Wider}
 use Rattle.avp_packet.specs.Packets.{IsShort, authenticator_of}
 use Rattle.radpolicy_clients.specs.Addresses.{address_of}
-use Rattle.radpolicy_record_answers.specs.Records.{word_shown}
+use Rattle.radpolicy_record_answers.specs.Records.{name_shown}
 use Rattle.radpolicy_record_answers.specs.declared.answers.RecordFault.{RecordFault}
 use Rattle.radpolicy_record_answers.specs.declared.answers.RecordFault.TheVariants.{ControlList, NoClient, ReplyList, Text as TextRefused}
 use Rattle.radpolicy_record_answers.specs.declared.captured.CapturedFault.TheVariants.{Text}
@@ -26,9 +26,10 @@ use Rattle.radpolicy_traffic_packets.specs.declared.faults.TextFault.TheVariants
 
 -- ---- the identifier and the source
 
+-- a record without an identifier, or with one that names nothing, is called by its number
 abbrev pub text_identifier : List ℕ → List ℕ
 text_identifier [] = []
-text_identifier (o ∷ os) = word_shown (o ∷ os)
+text_identifier (o ∷ os) = name_shown (o ∷ os)
 
 abbrev pub text_source : Record → Option IpAddr
 text_source given = option_and_then (λ text. address_of text.items) given.source

@@ -4,14 +4,14 @@ ghost use Rattle.std.specs.Prelude.{◌≡◌, ◌++◌, Err, IfErr, IfOk, Ok, O
 ghost use Rattle.avp_lists.specs.History.{present};
 ghost use Rattle.avp_unlang.specs.Meaning.{Outcome as End};
 ghost use Rattle.radpolicy.specs.Faults.{MemoryOr};
-ghost use Rattle.radpolicy_record_answers.specs.Answers.{answered, fault_shown, has_secret, hides_reply, outcome_shown, lines_fault_shown, refusal_shown, reply_shown, result_shown, text_fault_shown};
+ghost use Rattle.radpolicy_record_answers.specs.Answers.{answered, fault_shown, has_hidden, hides_pairs, hides_proxy_state, hides_reply, lines_fault_shown, outcome_shown, refusal_shown, reply_shown, result_shown, text_fault_shown};
 
-use avp_dict::{Dictionary, LineFault};
+use avp_dict::LineFault;
 use avp_lists::{List, Pair, Store};
 use avp_unlang::Code;
 use itoa::Buffer;
 use radpolicy::{Fault, PreparedPolicy, Reply, RunOutcome, Secret, Start, code_text};
-use radpolicy_common::{SecretValues, is_secret};
+use radpolicy_common::{Redaction, sends_hidden_proxy_state};
 use radpolicy_traffic_packets::TextFault;
 use std::alloc::{AllocError, Global};
 
@@ -46,29 +46,43 @@ pub fn answer<'a>(
     start.run(alloc)
 }
 
-fn has_secret(dictionary: &Dictionary, pairs: &[Pair]) -> bool
-    ensures { result ≡ has_secret dictionary.now pairs.now }
+fn has_hidden(redaction: &Redaction<'_>, pairs: &[Pair]) -> bool
+    ensures { result ≡ has_hidden redaction.now pairs.now }
 {
     pairs
         .iter()
-        .any(|pair| is_secret(dictionary, pair.id, &pair.value))
+        .any(|pair| redaction.hides(pair.id, &pair.value))
 }
 
-/// Whether a value of the reply is not to be shown.
-pub fn hides_reply(
-    dictionary: &Dictionary,
-    secrets: SecretValues,
-    outcome: &RunOutcome<'_>,
-) -> Result<bool, AllocError>
-    ensures { IfOk result (λ hides. hides ≡ hides_reply dictionary.now secrets outcome.now.end) }
+// Whether a value of the reply list is not to be shown.
+fn hides_pairs(redaction: &Redaction<'_>, outcome: &RunOutcome<'_>) -> Result<bool, AllocError>
+    ensures { IfOk result (λ hides. hides ≡ hides_pairs redaction.now outcome.now.end) }
 {
-    match (secrets, outcome.code()) {
-        (SecretValues::Shown, _) | (SecretValues::Hidden, Code::Fail) => Ok(false),
-        (SecretValues::Hidden, _) => {
-            let pairs = outcome.store().list(List::Reply)?;
-            Ok(has_secret(dictionary, pairs.as_slice()))
-        }
+    if let Code::Fail = outcome.code() {
+        return Ok(false);
     }
+    let pairs = outcome.store().list(List::Reply)?;
+    Ok(has_hidden(redaction, pairs.as_slice()))
+}
+
+// Whether a Proxy-State of what is sent is not to be shown.
+fn hides_proxy_state(redaction: &Redaction<'_>, reply: &Reply) -> bool
+    ensures { result ≡ hides_proxy_state redaction.now reply.now }
+{
+    match reply {
+        Reply::Packet(octets) => sends_hidden_proxy_state(redaction, octets.as_slice()),
+        Reply::Unmade | Reply::Nothing => false,
+    }
+}
+
+/// Whether a value of the reply is not to be shown: one of the reply list, or a Proxy-State of the request.
+pub fn hides_reply(redaction: &Redaction<'_>, outcome: &RunOutcome<'_>) -> Result<bool, AllocError>
+    ensures { IfOk result (λ hides. hides ≡ hides_reply redaction.now outcome.now) }
+{
+    if hides_pairs(redaction, outcome)? {
+        return Ok(true);
+    }
+    Ok(hides_proxy_state(redaction, outcome.reply()))
 }
 
 /// The reply in hexadecimal digits, unless it is hidden.
@@ -100,14 +114,13 @@ pub(crate) fn push_result(text: &mut Vec<u8>, outcome: &RunOutcome<'_>) -> Resul
 /// The result, the stop and the reply of an outcome.
 pub fn push_outcome(
     text: &mut Vec<u8>,
-    dictionary: &Dictionary,
-    secrets: SecretValues,
+    redaction: &Redaction<'_>,
     outcome: &RunOutcome<'_>,
 ) -> Result<(), AllocError>
     ensures { OnOk result (text.new.items
-        ≡ text.old.items ++ outcome_shown dictionary.now secrets outcome.now) }
+        ≡ text.old.items ++ outcome_shown redaction.now outcome.now) }
 {
-    let hides = hides_reply(dictionary, secrets, outcome)?;
+    let hides = hides_reply(redaction, outcome)?;
     push_result(text, outcome)?;
     text.extend_from_slice(b" ")?;
     push_reply(text, hides, outcome.reply())

@@ -32,7 +32,7 @@ use avp_packet::{
     Packet, decode_reply, decode_reply_unchecked,
 };
 use radpolicy::{Fault, Reply, RunOutcome, Runner, Secret};
-use radpolicy_common::SecretValues;
+use radpolicy_common::Redaction;
 use radpolicy_traffic_packets::TextFault;
 use std::alloc::{AllocError, Global};
 
@@ -591,8 +591,8 @@ impl Comparison<'_> {
         requires captured { PacketFits printer.now.old.now captured.now }
         requires own { PacketFits printer.now.new.now own.now }
         ensures { IfOk result (λ lines. lines.items
-            ≡ packets_lines (removed_line printer.now.old.now printer.now.secrets)
-            (added_line printer.now.new.now printer.now.secrets) self.now captured.now own.now) }
+            ≡ packets_lines (removed_line printer.now.old.now printer.now.redaction.now)
+            (added_line printer.now.new.now printer.now.redaction.now) self.now captured.now own.now) }
     {
         let captured_pairs = self.compared_pairs(alloc, captured.list.as_slice())?;
         let own_pairs = self.compared_pairs(alloc, own.list.as_slice())?;
@@ -612,8 +612,8 @@ impl Comparison<'_> {
         requires captured { PacketFits printer.now.old.now captured.now }
         requires own { PacketFits printer.now.new.now own.now }
         ensures { OnOk result (text.new.items ≡ text.old.items
-            ++ packets_change (removed_line printer.now.old.now printer.now.secrets)
-            (added_line printer.now.new.now printer.now.secrets) self.now captured.now own.now) }
+            ++ packets_change (removed_line printer.now.old.now printer.now.redaction.now)
+            (added_line printer.now.new.now printer.now.redaction.now) self.now captured.now own.now) }
     {
         let lines = self.packets_lines(*text.allocator(), printer, captured, own)?;
         push_named(text, b"reply", &lines)
@@ -623,14 +623,14 @@ impl Comparison<'_> {
         &self,
         text: &mut Vec<u8>,
         dictionary: &Dictionary,
-        secrets: SecretValues,
+        redaction: &Redaction<'_>,
         captured: &Packet,
         own: &Option<Packet>,
     ) -> Result<(), AllocError>
         requires captured { PacketFits dictionary.now captured.now }
         requires own { OwnFits dictionary.now own.now }
         ensures { OnOk result (text.new.items ≡ text.old.items
-            ++ replies_change secrets dictionary.now self.now captured.now own.now) }
+            ++ replies_change redaction.now dictionary.now self.now captured.now own.now) }
     {
         let Some(own) = own else {
             return Ok(());
@@ -638,7 +638,7 @@ impl Comparison<'_> {
         let printer = Printer {
             old: dictionary,
             new: dictionary,
-            secrets,
+            redaction,
         };
         self.push_packets_change(text, &printer, captured, own)
     }
@@ -647,14 +647,14 @@ impl Comparison<'_> {
         &self,
         text: &mut Vec<u8>,
         dictionary: &Dictionary,
-        secrets: SecretValues,
+        redaction: &Redaction<'_>,
         name: &[u8],
         captured: &Packet,
         own: &Option<Packet>,
     ) -> Result<(), AllocError>
         requires captured { PacketFits dictionary.now captured.now }
         requires own { OwnFits dictionary.now own.now }
-        ensures { OnOk result (text.new.items ≡ text.old.items ++ other_reply_told secrets
+        ensures { OnOk result (text.new.items ≡ text.old.items ++ other_reply_told redaction.now
             dictionary.now self.now name.now captured.now own.now) }
     {
         text.extend_from_slice(name)?;
@@ -662,8 +662,8 @@ impl Comparison<'_> {
         text.extend_from_slice(b" -> ")?;
         text.extend_from_slice(own_name(own))?;
         text.extend_from_slice(b"\n")?;
-        self.push_captured_list(text, dictionary, secrets, captured)?;
-        self.push_replies_change(text, dictionary, secrets, captured, own)
+        self.push_captured_list(text, dictionary, redaction, captured)?;
+        self.push_replies_change(text, dictionary, redaction, captured, own)
     }
 
     // What is said of two replies, and what became of their record.
@@ -672,23 +672,23 @@ impl Comparison<'_> {
         &self,
         text: &mut Vec<u8>,
         dictionary: &Dictionary,
-        secrets: SecretValues,
+        redaction: &Redaction<'_>,
         name: &[u8],
         captured: &Packet,
         own: &Option<Packet>,
     ) -> Result<Verdict, AllocError>
         requires captured { PacketFits dictionary.now captured.now }
         requires own { OwnFits dictionary.now own.now }
-        ensures text { OnOk result (text.new.items ≡ text.old.items ++ replies_told secrets
+        ensures text { OnOk result (text.new.items ≡ text.old.items ++ replies_told redaction.now
             dictionary.now self.now name.now (Both captured.now own.now)) }
         ensures verdict { IfOk result (λ verdict.
             verdict ≡ verdict_of_replies self.now (Both captured.now own.now)) }
     {
         if self.same_replies(*text.allocator(), captured, own)? {
-            self.push_same_reply(text, dictionary, secrets, name, captured)?;
+            self.push_same_reply(text, dictionary, redaction, name, captured)?;
             return Ok(Verdict::Same);
         }
-        self.push_other_reply(text, dictionary, secrets, name, captured, own)?;
+        self.push_other_reply(text, dictionary, redaction, name, captured, own)?;
         Ok(Verdict::Different)
     }
 
@@ -731,13 +731,13 @@ impl Comparison<'_> {
         &self,
         text: &mut Vec<u8>,
         dictionary: &Dictionary,
-        secrets: SecretValues,
+        redaction: &Redaction<'_>,
         name: &[u8],
         replies: &Replies,
     ) -> Result<Verdict, AllocError>
         requires { RepliesFit dictionary.now replies.now }
         ensures text { OnOk result (text.new.items ≡ text.old.items
-            ++ replies_told secrets dictionary.now self.now name.now replies.now) }
+            ++ replies_told redaction.now dictionary.now self.now name.now replies.now) }
         ensures verdict { IfOk result (λ verdict.
             verdict ≡ verdict_of_replies self.now replies.now) }
     {
@@ -753,7 +753,7 @@ impl Comparison<'_> {
                 Ok(Verdict::Challenged)
             }
             Replies::Both { captured, own } => {
-                self.push_both(text, dictionary, secrets, name, captured, own)
+                self.push_both(text, dictionary, redaction, name, captured, own)
             }
         }
     }

@@ -7,43 +7,40 @@ ghost use Rattle.radpolicy_record_answers.specs.internal.Fitting.{PacketFits};
 
 use crate::captured::reply_name;
 use crate::comparisons::{Comparison, Told};
-use crate::differences::push_named;
+use crate::differences::{push_named, push_pair_line};
 use avp_dict::Dictionary;
 use avp_lists::Pair;
 use avp_packet::Packet;
-use radpolicy_common::{SecretValues, pair_text};
+use radpolicy_common::Redaction;
 use std::alloc::{AllocError, Global};
 
 fn push_captured_line(
     text: &mut Vec<u8>,
     dictionary: &Dictionary,
-    secrets: SecretValues,
+    redaction: &Redaction<'_>,
     pair: &Pair,
 ) -> Result<(), AllocError>
     requires { Fits dictionary.now pair.now }
     ensures { OnOk result (text.new.items
-        ≡ text.old.items ++ captured_line dictionary.now secrets pair.now) }
+        ≡ text.old.items ++ captured_line dictionary.now redaction.now pair.now) }
 {
-    let line = pair_text(*text.allocator(), dictionary, secrets, pair)?;
-    text.extend_from_slice(b"    ")?;
-    text.extend_from_slice(&line)?;
-    Ok(())
+    push_pair_line(text, b"    ", dictionary, redaction, pair)
 }
 
 /// The pairs of a reply that was captured, each on a line of its own.
 pub fn captured_lines(
     alloc: Global,
     dictionary: &Dictionary,
-    secrets: SecretValues,
+    redaction: &Redaction<'_>,
     captured: &Packet,
 ) -> Result<Vec<u8>, AllocError>
     requires { PacketFits dictionary.now captured.now }
     ensures { IfOk result (λ lines.
-        lines.items ≡ captured_lines dictionary.now secrets captured.now) }
+        lines.items ≡ captured_lines dictionary.now redaction.now captured.now) }
 {
     let mut lines = Vec::new(alloc);
     for pair in captured.list.as_slice() {
-        push_captured_line(&mut lines, dictionary, secrets, pair)?;
+        push_captured_line(&mut lines, dictionary, redaction, pair)?;
     }
     Ok(lines)
 }
@@ -54,17 +51,17 @@ impl Comparison<'_> {
         &self,
         text: &mut Vec<u8>,
         dictionary: &Dictionary,
-        secrets: SecretValues,
+        redaction: &Redaction<'_>,
         captured: &Packet,
     ) -> Result<(), AllocError>
         requires { PacketFits dictionary.now captured.now }
         ensures { OnOk result (text.new.items ≡ text.old.items
-            ++ captured_list secrets dictionary.now self.now captured.now) }
+            ++ captured_list redaction.now dictionary.now self.now captured.now) }
     {
         if !self.shows_replies {
             return Ok(());
         }
-        let lines = captured_lines(*text.allocator(), dictionary, secrets, captured)?;
+        let lines = captured_lines(*text.allocator(), dictionary, redaction, captured)?;
         push_named(text, b"captured", &lines)
     }
 
@@ -73,12 +70,12 @@ impl Comparison<'_> {
         &self,
         text: &mut Vec<u8>,
         dictionary: &Dictionary,
-        secrets: SecretValues,
+        redaction: &Redaction<'_>,
         name: &[u8],
         captured: &Packet,
     ) -> Result<(), AllocError>
         requires { PacketFits dictionary.now captured.now }
-        ensures { OnOk result (text.new.items ≡ text.old.items ++ same_reply_told secrets
+        ensures { OnOk result (text.new.items ≡ text.old.items ++ same_reply_told redaction.now
             dictionary.now self.now self.now.told name.now captured.now) }
     {
         if let Told::Different = self.told {
@@ -87,6 +84,6 @@ impl Comparison<'_> {
         text.extend_from_slice(name)?;
         text.extend_from_slice(reply_name(captured.code))?;
         text.extend_from_slice(b"\n")?;
-        self.push_captured_list(text, dictionary, secrets, captured)
+        self.push_captured_list(text, dictionary, redaction, captured)
     }
 }

@@ -1,36 +1,69 @@
 //! What is said of two answers to a record that were compared.
 
-ghost use Rattle.std.specs.Prelude.{◌≡◌, ◌++◌, IfOk, Ok, OnOk, codes};
+ghost use Rattle.std.specs.Prelude.{◌≡◌, ◌++◌, IfOk, Ok, OnOk};
 ghost use Rattle.std.specs.List.{flat_map};
 ghost use Rattle.radpolicy_common.specs.ChangeTexts.{AllFit, Fits};
 ghost use Rattle.radpolicy_record_answers.specs.Comparisons.{ids_of, line_fault_number, pairs_of, same_answers, same_faults, text_fault_number};
-ghost use Rattle.radpolicy_record_answers.specs.Differences.{added_line, answers_told, change_of, changes_of, difference_told, instances_change, list_change, named_change, pairs_change, removed_line, result_or_fault, same_told, verdict_of_answers, verdict_of_same};
+ghost use Rattle.radpolicy_record_answers.specs.Differences.{added_line, answers_told, change_of, changes_of, difference_told, instances_change, list_change, named_change, pair_line, pairs_change, removed_line, result_or_fault, same_told, value_shown, verdict_of_answers, verdict_of_same};
 ghost use Rattle.radpolicy_record_answers.specs.internal.Over.{IsOver};
 
 use crate::answers::{RecordFault, push_refusal, push_result};
 use crate::comparisons::{Comparison, Order, Told, compared, ids_of, instances, same_pairs};
 use crate::verdicts::Verdict;
 use avp_dict::{Dictionary, LineFault};
+use avp_forms::{Profile, printed_pair_name, printed_pair_text};
 use avp_lists::{AttrId, List, Pair, Store};
 use radpolicy::{Fault, RunOutcome};
-use radpolicy_common::{Change, SecretValues, change_lines};
+use radpolicy_common::Redaction;
 use radpolicy_traffic_packets::TextFault;
 use std::alloc::{AllocError, Global};
 
-/// The dictionaries by which the pairs of two lists are printed.
+/// The dictionaries by which the pairs of two lists are printed, and what is hidden of them.
 #[derive(Drop)]
 pub struct Printer<'a> {
     pub old: &'a Dictionary,
     pub new: &'a Dictionary,
-    pub secrets: SecretValues,
+    pub redaction: &'a Redaction<'a>,
 }
 
-// A line, after two spaces.
-fn push_indented(text: &mut Vec<u8>, line: &[u8]) -> Result<(), AllocError>
-    ensures { OnOk result (text.new.items ≡ text.old.items ++ codes "  " ++ line.now) }
+// The text of a value, or `(hidden)`.
+fn value_shown(
+    alloc: Global,
+    dictionary: &Dictionary,
+    redaction: &Redaction<'_>,
+    pair: &Pair,
+) -> Result<Vec<u8>, AllocError>
+    requires { Fits dictionary.now pair.now }
+    ensures { IfOk result (λ text.
+        text.items ≡ value_shown dictionary.now redaction.now pair.now) }
 {
-    text.extend_from_slice(b"  ")?;
-    text.extend_from_slice(line)?;
+    if redaction.hides(pair.id, &pair.value) {
+        Vec::from_slice(alloc, b"(hidden)")
+    } else {
+        printed_pair_text(alloc, dictionary, Profile::Wider, pair.id, &pair.value)
+    }
+}
+
+/// The line of a pair, after these octets.
+pub(crate) fn push_pair_line(
+    text: &mut Vec<u8>,
+    before: &[u8],
+    dictionary: &Dictionary,
+    redaction: &Redaction<'_>,
+    pair: &Pair,
+) -> Result<(), AllocError>
+    requires { Fits dictionary.now pair.now }
+    ensures { OnOk result (text.new.items ≡ text.old.items
+        ++ before.now ++ pair_line dictionary.now redaction.now pair.now) }
+{
+    let alloc = *text.allocator();
+    let name = printed_pair_name(alloc, dictionary, Profile::Wider, pair.id, &pair.value)?;
+    let value = value_shown(alloc, dictionary, redaction, pair)?;
+    text.extend_from_slice(before)?;
+    text.extend_from_slice(&name)?;
+    text.extend_from_slice(b" = ")?;
+    text.extend_from_slice(&value)?;
+    text.extend_from_slice(b"\n")?;
     Ok(())
 }
 
@@ -38,27 +71,23 @@ impl Printer<'_> {
     fn push_removed(&self, text: &mut Vec<u8>, pair: &Pair) -> Result<(), AllocError>
         requires { Fits self.now.old.now pair.now }
         ensures { OnOk result (text.new.items
-            ≡ text.old.items ++ removed_line self.now.old.now self.now.secrets pair.now) }
+            ≡ text.old.items ++ removed_line self.now.old.now self.now.redaction.now pair.now) }
     {
-        let alloc = *text.allocator();
-        let line = change_lines(alloc, self.old, &[Change::Removed(pair)], self.secrets)?;
-        push_indented(text, &line)
+        push_pair_line(text, b"  - ", self.old, self.redaction, pair)
     }
 
     fn push_added(&self, text: &mut Vec<u8>, pair: &Pair) -> Result<(), AllocError>
         requires { Fits self.now.new.now pair.now }
         ensures { OnOk result (text.new.items
-            ≡ text.old.items ++ added_line self.now.new.now self.now.secrets pair.now) }
+            ≡ text.old.items ++ added_line self.now.new.now self.now.redaction.now pair.now) }
     {
-        let alloc = *text.allocator();
-        let line = change_lines(alloc, self.new, &[Change::Added(pair)], self.secrets)?;
-        push_indented(text, &line)
+        push_pair_line(text, b"  + ", self.new, self.redaction, pair)
     }
 
     fn push_all_removed(&self, text: &mut Vec<u8>, pairs: &[&Pair]) -> Result<(), AllocError>
         requires { AllFit self.now.old.now (pairs_of pairs.now) }
         ensures { OnOk result (text.new.items ≡ text.old.items
-            ++ flat_map (removed_line self.now.old.now self.now.secrets) (pairs_of pairs.now)) }
+            ++ flat_map (removed_line self.now.old.now self.now.redaction.now) (pairs_of pairs.now)) }
     {
         let mut rest = pairs;
         while let [pair, later @ ..] = rest {
@@ -71,7 +100,7 @@ impl Printer<'_> {
     fn push_all_added(&self, text: &mut Vec<u8>, pairs: &[&Pair]) -> Result<(), AllocError>
         requires { AllFit self.now.new.now (pairs_of pairs.now) }
         ensures { OnOk result (text.new.items ≡ text.old.items
-            ++ flat_map (added_line self.now.new.now self.now.secrets) (pairs_of pairs.now)) }
+            ++ flat_map (added_line self.now.new.now self.now.redaction.now) (pairs_of pairs.now)) }
     {
         let mut rest = pairs;
         while let [pair, later @ ..] = rest {
@@ -86,8 +115,8 @@ impl Printer<'_> {
         requires old { AllFit self.now.old.now (pairs_of old.now) }
         requires new { AllFit self.now.new.now (pairs_of new.now) }
         ensures { OnOk result (text.new.items ≡ text.old.items
-            ++ pairs_change (removed_line self.now.old.now self.now.secrets)
-            (added_line self.now.new.now self.now.secrets) (pairs_of old.now) (pairs_of new.now)) }
+            ++ pairs_change (removed_line self.now.old.now self.now.redaction.now)
+            (added_line self.now.new.now self.now.redaction.now) (pairs_of old.now) (pairs_of new.now)) }
     {
         if same_pairs(old, new) {
             return Ok(());
@@ -108,8 +137,8 @@ impl Printer<'_> {
         requires old { AllFit self.now.old.now (pairs_of old.now) }
         requires new { AllFit self.now.new.now (pairs_of new.now) }
         ensures { OnOk result (text.new.items ≡ text.old.items
-            ++ instances_change (removed_line self.now.old.now self.now.secrets)
-            (added_line self.now.new.now self.now.secrets) (pairs_of old.now) (pairs_of new.now)
+            ++ instances_change (removed_line self.now.old.now self.now.redaction.now)
+            (added_line self.now.new.now self.now.redaction.now) (pairs_of old.now) (pairs_of new.now)
             id) }
     {
         let alloc = *text.allocator();
@@ -128,8 +157,8 @@ impl Printer<'_> {
         requires old { AllFit self.now.old.now (pairs_of old.now) }
         requires new { AllFit self.now.new.now (pairs_of new.now) }
         ensures { OnOk result (text.new.items ≡ text.old.items
-            ++ flat_map (instances_change (removed_line self.now.old.now self.now.secrets)
-            (added_line self.now.new.now self.now.secrets) (pairs_of old.now) (pairs_of new.now))
+            ++ flat_map (instances_change (removed_line self.now.old.now self.now.redaction.now)
+            (added_line self.now.new.now self.now.redaction.now) (pairs_of old.now) (pairs_of new.now))
             ids.now) }
     {
         let mut rest = ids;
@@ -152,8 +181,8 @@ impl Printer<'_> {
         requires old { AllFit self.now.old.now (pairs_of old.now) }
         requires new { AllFit self.now.new.now (pairs_of new.now) }
         ensures { OnOk result (text.new.items ≡ text.old.items
-            ++ list_change (removed_line self.now.old.now self.now.secrets)
-            (added_line self.now.new.now self.now.secrets) order (pairs_of old.now)
+            ++ list_change (removed_line self.now.old.now self.now.redaction.now)
+            (added_line self.now.new.now self.now.redaction.now) order (pairs_of old.now)
             (pairs_of new.now)) }
     {
         match order {
@@ -270,7 +299,7 @@ impl Comparison<'_> {
         requires old { old.now.dictionary ≡ printer.now.old.now }
         requires new { new.now.dictionary ≡ printer.now.new.now }
         ensures { IfOk result (λ text.
-            text.items ≡ change_of printer.now.secrets self.now list old.now new.now) }
+            text.items ≡ change_of printer.now.redaction.now self.now list old.now new.now) }
     {
         let old_list = old.store().list(list)?;
         let new_list = new.store().list(list)?;
@@ -291,7 +320,7 @@ impl Comparison<'_> {
         requires old { old.now.dictionary ≡ printer.now.old.now }
         requires new { new.now.dictionary ≡ printer.now.new.now }
         ensures { OnOk result (text.new.items ≡ text.old.items
-            ++ changes_of printer.now.secrets self.now (Ok old.now) (Ok new.now)) }
+            ++ changes_of printer.now.redaction.now self.now (Ok old.now) (Ok new.now)) }
     {
         let alloc = *text.allocator();
         let reply = self.change_of(alloc, printer, List::Reply, old, new)?;
@@ -311,7 +340,7 @@ impl Comparison<'_> {
         requires old { IsOver printer.now.old.now old.now }
         requires new { IsOver printer.now.new.now new.now }
         ensures { OnOk result (text.new.items
-            ≡ text.old.items ++ changes_of printer.now.secrets self.now old.now new.now) }
+            ≡ text.old.items ++ changes_of printer.now.redaction.now self.now old.now new.now) }
     {
         if let Ok(old) = old {
             if let Ok(new) = new {
@@ -332,7 +361,7 @@ impl Comparison<'_> {
         requires old { IsOver printer.now.old.now old.now }
         requires new { IsOver printer.now.new.now new.now }
         ensures { OnOk result (text.new.items ≡ text.old.items
-            ++ difference_told printer.now.secrets self.now name.now old.now new.now) }
+            ++ difference_told printer.now.redaction.now self.now name.now old.now new.now) }
     {
         text.extend_from_slice(name)?;
         push_result_or_fault(text, old)?;
@@ -376,7 +405,7 @@ impl Comparison<'_> {
         requires old { IsOver printer.now.old.now old.now }
         requires new { IsOver printer.now.new.now new.now }
         ensures text { OnOk result (text.new.items ≡ text.old.items
-            ++ answers_told printer.now.secrets self.now name.now old.now new.now) }
+            ++ answers_told printer.now.redaction.now self.now name.now old.now new.now) }
         ensures verdict { IfOk result (λ verdict.
             verdict ≡ verdict_of_answers self.now old.now new.now) }
     {

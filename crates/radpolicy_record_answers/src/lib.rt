@@ -25,7 +25,7 @@ pub use comparisons::{Against, Comparison, Order, Told, compared, same_lists};
 pub use differences::{Printer, verdict_of_same};
 pub use entries::{Entry, answer_over, entry_answer, entry_of_line};
 pub use record_lines::run_of;
-pub use records::{MAX_LINE_OCTETS, push_name, request_octets, source_of};
+pub use records::{MAX_LINE_OCTETS, is_packet_word, push_name, request_octets, source_of};
 pub use requests::{RecordRequest, RecordSecret};
 pub use text_entries::{entry_of_record, text_source};
 pub use verdicts::Verdict;

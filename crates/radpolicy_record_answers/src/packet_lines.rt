@@ -2,12 +2,12 @@
 
 ghost use Rattle.std.specs.Prelude.{◌≡◌, ◌++◌, OnOk};
 ghost use Rattle.hex.specs.Hex.{encode_lower};
-ghost use Rattle.radpolicy_record_answers.specs.PacketLines.{after_name, has_packet, has_packet_of, is_alone, packet_line, packets_shown, source_shown};
+ghost use Rattle.radpolicy_record_answers.specs.PacketLines.{after_name, has_packet, has_packet_of, is_alone, is_misread, name_in_line, packet_line, packets_shown, source_shown, word_of_name};
 
 use crate::answers::{RecordFault, push_refusal};
 use crate::captured::CapturedReply;
 use crate::entries::Entry;
-use crate::records::push_name;
+use crate::records::{is_name, is_packet_word, is_source, push_name};
 use crate::requests::RecordRequest;
 use std::alloc::AllocError;
 
@@ -86,6 +86,27 @@ fn push_after_name(
     }
 }
 
+// The word of a name, which a space ends.
+fn word_of_name(name: &[u8]) -> &[u8]
+    ensures { result.now ≡ word_of_name name.now }
+{
+    &name[..name.len().saturating_sub(1)]
+}
+
+// Whether a name would be read as the packet of its line, as its source or as no name.
+fn is_misread(name: &[u8]) -> bool
+    ensures { result ≡ is_misread name.now }
+{
+    let word = word_of_name(name);
+    is_packet_word(word) || is_source(word) || !is_name(word)
+}
+
+fn name_in_line(name: &[u8]) -> &[u8]
+    ensures { result.now ≡ name_in_line name.now }
+{
+    if is_misread(name) { &[] } else { name }
+}
+
 impl Entry {
     /// Whether the line of packets of the record has its request.
     pub fn has_packet(&self) -> bool
@@ -94,9 +115,10 @@ impl Entry {
         has_packet_of(&self.request)
     }
 
-    /// Adds the line of packets of a record with this number. Its source comes before the request; it is empty where
-    /// none is known. Where the line has no request, it says why, and a replay refuses it. It has no reply of a
-    /// challenge, or of lines that make no packet.
+    /// Adds the line of packets of a record with this number, which is its name where it has no other, or one that the
+    /// line would not be read by. Its source comes before the request; it is empty where none is known. Where the line
+    /// has no request, it says why, and a replay refuses it. It has no reply of a challenge, or of lines that make no
+    /// packet.
     pub fn push_packet_line(
         &self,
         text: &mut Vec<u8>,
@@ -106,7 +128,7 @@ impl Entry {
         ensures { OnOk result (text.new.items
             ≡ text.old.items ++ packet_line number source.now self.now) }
     {
-        push_name(text, number, self.identifier.as_slice())?;
+        push_name(text, number, name_in_line(self.identifier.as_slice()))?;
         push_after_name(text, source, &self.reply, &self.request)?;
         text.extend_from_slice(b"\n")?;
         Ok(())

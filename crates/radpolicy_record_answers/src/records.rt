@@ -1,14 +1,14 @@
 //! What the line of a record says.
 
-ghost use Rattle.std.specs.Prelude.{◌≡◌, ◌==◌, ◌++◌, ◌+◌, ◌≤◌, Err, IfErr, IfOk, None, OnOk, Ok, Some, filter, find, length};
-ghost use Rattle.std.specs.List.{count_by, flat_map, list_all};
-ghost use Rattle.std.specs.Option.{option_copied};
+ghost use Rattle.std.specs.Prelude.{◌≡◌, ◌==◌, ◌++◌, ◌+◌, ◌≤◌, Err, IfErr, IfOk, None, OnOk, Ok, Some, find, length};
+ghost use Rattle.std.specs.List.{count_by, flat_map, list_all, list_any};
+ghost use Rattle.std.specs.Option.{option_and, option_copied};
 ghost use Rattle.hex.specs.Hex.{decode_of, is_hex_digit};
 ghost use Rattle.avp_dict.specs.Quotes.{octal_escape};
 ghost use Rattle.avp_dict.specs.internal.Views.{views};
 ghost use Rattle.radpolicy.specs.Faults.{MemoryOr};
 ghost use Rattle.radpolicy_record_answers.specs.Captured.{reply_word, words_after};
-ghost use Rattle.radpolicy_record_answers.specs.Records.{begins_source, has_double_colon, identifier_shown, is_address, is_address_octet, is_packet_word, is_source, line_identifier, line_words, octet_shown, octets_decoded, or_number, request_octets, source_of, source_text, word_shown, words_before};
+ghost use Rattle.radpolicy_record_answers.specs.Records.{begins_source, has_double_colon, identifier_shown, is_address, is_address_octet, is_name, is_no_name_octet, is_packet_word, is_source, line_identifier, line_words, name_word, octet_shown, octets_decoded, or_number, request_octets, source_of, source_text, word_shown, words_before};
 
 use avp_dict::words_between_blanks;
 use hex::FromHexError;
@@ -33,8 +33,9 @@ fn has_hex_digits(word: &[u8]) -> bool
     word.iter().all(|octet| is_hex_digit(*octet))
 }
 
+/// Whether a word of a line is a packet: it has 40 hexadecimal digits or more, and nothing else.
 #[tactic(auto, unfolding(crate::specs::Records::is_packet_word))]
-fn is_packet_word(word: &[u8]) -> bool
+pub fn is_packet_word(word: &[u8]) -> bool
     ensures { result ≡ is_packet_word word.now }
 {
     word.len() >= 40 && has_hex_digits(word)
@@ -91,8 +92,9 @@ fn begins_source(word: &[u8]) -> bool
     matches!(word, [b's', b'r', b'c', b'=', ..])
 }
 
+/// Whether a word is a source.
 #[tactic(auto, unfolding(crate::specs::Records::is_source))]
-fn is_source(word: &[u8]) -> bool
+pub(crate) fn is_source(word: &[u8]) -> bool
     ensures { result ≡ is_source word.now }
 {
     begins_source(word) || is_address(word)
@@ -169,20 +171,62 @@ pub(crate) fn push_word(text: &mut Vec<u8>, word: &[u8]) -> Result<(), AllocErro
     Ok(())
 }
 
-// The words before the first packet that are no source.
+// The word, where a packet is among those after it.
+fn before_packet<'a>(word: &'a [u8], later: &[&'a [u8]]) -> Option<&'a [u8]>
+    ensures { option_copied result
+        ≡ option_and (find is_packet_word (views later.now)) (Some word.now) }
+{
+    match first_packet(later) {
+        Some(_) => Some(word),
+        None => None,
+    }
+}
+
+// The word that names the record of these words.
+fn name_word<'a>(words: &[&'a [u8]]) -> Option<&'a [u8]>
+    ensures { option_copied result ≡ name_word (views words.now) }
+{
+    let mut rest = words;
+    while let [word, later @ ..] = rest {
+        if is_packet_word(word) {
+            return None;
+        }
+        if !is_source(word) {
+            return before_packet(word, later);
+        }
+        rest = later;
+    }
+    None
+}
+
+#[tactic(auto, unfolding(crate::specs::Records::is_no_name_octet))]
+fn is_no_name_octet(octet: u8) -> bool
+    ensures { result ≡ is_no_name_octet octet }
+{
+    b"=\"'[/".contains(&octet)
+}
+
+fn has_no_name_octet(word: &[u8]) -> bool
+    ensures { result ≡ list_any is_no_name_octet word.now }
+{
+    word.iter().any(|octet| is_no_name_octet(*octet))
+}
+
+/// Whether a word may name a record. Words of logs and of configurations do not, which may have secrets in them.
+pub(crate) fn is_name(word: &[u8]) -> bool
+    ensures { result ≡ is_name word.now }
+{
+    !has_no_name_octet(word)
+}
+
 fn identifier_shown(alloc: Global, words: &[&[u8]]) -> Result<Vec<u8>, AllocError>
     ensures { IfOk result (λ text. text.items ≡ identifier_shown (views words.now)) }
 {
     let mut text = Vec::new(alloc);
-    let mut rest = words;
-    while let [word, later @ ..] = rest {
-        if is_packet_word(word) {
-            return Ok(text);
-        }
-        if !is_source(word) {
-            push_word(&mut text, word)?;
-        }
-        rest = later;
+    if let Some(word) = name_word(words)
+        && is_name(word)
+    {
+        push_word(&mut text, word)?;
     }
     Ok(text)
 }

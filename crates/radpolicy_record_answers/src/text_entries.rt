@@ -7,7 +7,7 @@ ghost use Rattle.radpolicy_record_answers.specs.internal.Fitting.{HasHead};
 use crate::answers::RecordFault;
 use crate::captured::{CapturedFault, CapturedReply, copy_authenticator};
 use crate::entries::Entry;
-use crate::records::push_word;
+use crate::records::{is_name, push_word};
 use crate::requests::RecordRequest;
 use avp_dict::{Dictionary, LineFault, LineKind};
 use avp_forms::{Profile, read_request};
@@ -26,7 +26,9 @@ fn text_identifier(alloc: Global, identifier: &[u8]) -> Result<Vec<u8>, AllocErr
     if let [] = identifier {
         return Ok(text);
     }
-    push_word(&mut text, identifier)?;
+    if is_name(identifier) {
+        push_word(&mut text, identifier)?;
+    }
     Ok(text)
 }
 

@@ -7,7 +7,9 @@ use std::alloc::{AllocError, Global};
 fn client_hint(fault: ClientFault) -> &'static str {
     match fault {
         ClientFault::Memory | ClientFault::Unreadable | ClientFault::Forbidden => "",
-        ClientFault::Configuration(FaultKind::Unreadable | FaultKind::Forbidden) => "",
+        ClientFault::Configuration(
+            FaultKind::Unreadable | FaultKind::Forbidden | FaultKind::NotRegular,
+        ) => "",
         ClientFault::Configuration(_) => {
             "correct the line, or write lines of an address and a secret, as 192.0.2.0/24 testing123\n"
         }

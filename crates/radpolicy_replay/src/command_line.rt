@@ -48,6 +48,8 @@ const ZONE: &str = "zone";
 
 const SHOW_SECRETS: &str = "show-secrets";
 
+const HIDE: &str = "hide";
+
 const DICTIONARY: &str = "dictionary";
 
 /// The word for the replies that were captured; a file of this name is `./captured`.
@@ -104,6 +106,8 @@ pub struct Plan<'a> {
     pub expected: Option<&'a str>,
     pub secret: SecretPlan<'a>,
     pub secrets: SecretValues,
+    /// Attributes whose values are hidden besides.
+    pub hidden: Vec<&'a str>,
     /// `None`: told from the input.
     pub traffic: Option<Traffic>,
     /// How many minutes the clocks of a zone other than UTC that a date names are before UTC's.
@@ -242,7 +246,8 @@ fn no_secret_option<'a>(alloc: Global) -> Arg<'a> {
         .long(NO_SECRET)
         .action(ArgAction::SetTrue)
         .help(
-            "Reads packets without a secret: hidden values stay octets, no authenticator is checked, no reply packet is made",
+            "Reads packets without a secret: hidden values stay octets, no authenticator is checked, no reply packet is \
+            made; of texts packets are made by a known secret",
         )
 }
 
@@ -269,6 +274,14 @@ fn show_secrets_option<'a>(alloc: Global) -> Arg<'a> {
         .long(SHOW_SECRETS)
         .action(ArgAction::SetTrue)
         .help("Shows passwords, keys and the replies that hold them")
+}
+
+fn hide_option<'a>(alloc: Global) -> Arg<'a> {
+    Arg::new(alloc, HIDE)
+        .long(HIDE)
+        .value_name("NAME")
+        .action(ArgAction::Append)
+        .help("Hides an attribute's values as those of secret ones; may be given more than once")
 }
 
 fn dictionary_files<'a>(alloc: Global) -> Arg<'a> {
@@ -308,6 +321,7 @@ fn program<'a>(alloc: Global) -> Result<clap::Command<'a>, AllocError> {
         .arg(format_option(alloc))?
         .arg(zone_option(alloc))?
         .arg(show_secrets_option(alloc))?
+        .arg(hide_option(alloc))?
         .arg(dictionary_files(alloc))
 }
 
@@ -359,8 +373,13 @@ fn asked_layout(found: &ArgMatches<'_>) -> Result<Layout, Fault>
     }
 }
 
-fn ignored_names<'a>(alloc: Global, found: &ArgMatches<'a>) -> Result<Vec<&'a str>, AllocError> {
-    match found.get_strs(IGNORE) {
+// The names that an option gives.
+fn names_of<'a>(
+    alloc: Global,
+    found: &ArgMatches<'a>,
+    option: &str,
+) -> Result<Vec<&'a str>, AllocError> {
+    match found.get_strs(option) {
         Some(names) => Vec::from_slice(alloc, names),
         None => Ok(Vec::new(alloc)),
     }
@@ -394,7 +413,7 @@ fn comparison_of<'a>(
     Ok(Some(ComparisonPlan {
         against: against_plan(against),
         order: asked_order(found),
-        ignored: ignored_names(alloc, found)?,
+        ignored: names_of(alloc, found, IGNORE)?,
         told: asked_records(found),
         shows_replies: found.get_flag(SHOW_REPLIES),
     }))
@@ -449,6 +468,7 @@ fn plan_of<'a>(alloc: Global, found: &ArgMatches<'a>) -> Result<Plan<'a>, Fault>
         expected: found.get_str(EXPECT),
         secret: secret_plan(found)?,
         secrets: shown_secrets(found),
+        hidden: names_of(alloc, found, HIDE)?,
         traffic: traffic_of(found)?,
         zone: zone_of(found)?,
         dictionaries: Vec::from_slice(alloc, files)?,
@@ -467,7 +487,7 @@ fn packets_plan<'a>(alloc: Global, found: &ArgMatches<'a>) -> Result<PacketsPlan
     })
 }
 
-// Whether it is said how records are answered, or how answers are printed. Packets are made by a secret.
+// Whether it is said how records are answered, or how answers are printed.
 fn has_replay(found: &ArgMatches<'_>) -> bool {
     found.get_str(POLICY).is_some()
         || found.get_str(AGAINST).is_some()
@@ -476,7 +496,7 @@ fn has_replay(found: &ArgMatches<'_>) -> bool {
         || found.get_flag(TAP)
         || found.get_flag(JSON)
         || found.get_flag(SHOW_SECRETS)
-        || found.get_flag(NO_SECRET)
+        || found.get_strs(HIDE).is_some()
         || has_comparison(found)
 }
 
@@ -512,7 +532,7 @@ fn lacks_replies(found: &ArgMatches<'_>) -> bool {
 // What is wrong with words that are options and their values, if they are refused.
 fn refusal_of(found: &ArgMatches<'_>) -> &'static str {
     if found.get_flag(TO_HEX) && has_replay(found) {
-        "--to-hex answers nothing: beside it write -S or --clients, --format and --zone alone\n"
+        "--to-hex answers nothing: beside it write -S, --clients or --no-secret, --format and --zone alone\n"
     } else if !found.get_flag(TO_HEX) && found.get_str(POLICY).is_none() {
         "write --policy POLICY\n"
     } else if lacks_replies(found) {

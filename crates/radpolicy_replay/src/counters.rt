@@ -1,5 +1,6 @@
 //! How many records a second are answered, and the counter of them on a terminal.
 
+use crate::log_watches::LogWatch;
 use radpolicy_common::Stream;
 use radpolicy_replay_records::{Records, ReplayFault};
 use radpolicy_traffic::Record;
@@ -96,6 +97,7 @@ impl<'a> Counter<'a> {
 pub struct CountedLines<'a, R: Read + Drop> {
     input: R,
     pub counter: Counter<'a>,
+    pub log: LogWatch,
     // Whether the line that has not ended is no line of blanks.
     has_word: bool,
 }
@@ -104,6 +106,7 @@ impl<'a, R: Read + Drop> CountedLines<'a, R> {
     pub fn new(input: R, counter: Counter<'a>) -> CountedLines<'a, R> {
         CountedLines {
             input,
+            log: LogWatch::new(counter.rt.alloc()),
             counter,
             has_word: false,
         }
@@ -130,6 +133,7 @@ impl<R: Read + Drop> Read for CountedLines<'_, R> {
     fn read(&mut self, buf: &mut [u8]) -> io::Result<usize> {
         self.counter.show();
         let count = self.input.read(buf)?;
+        self.log.look(&buf[..count]);
         if self.counter.is_wanted {
             let (ended, has_word) = ended_records(&buf[..count], self.has_word);
             self.counter.add(ended);

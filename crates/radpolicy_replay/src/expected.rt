@@ -1,7 +1,8 @@
 //! An earlier output, with which this one is compared.
 
+use crate::places::{refuse_unread, shown};
 use radpolicy::Fault;
-use radpolicy_common::{LineBreaks, Unread, refuse_early, refuse_unread, visible_text};
+use radpolicy_common::{Redaction, SecretValues, Unread, refuse_early, unread_shown};
 use std::alloc::{AllocError, Global};
 use std::fs::File;
 use std::io;
@@ -28,25 +29,60 @@ pub fn open_expected<'a>(
     }
 }
 
-// A line as it is shown.
-fn shown(alloc: Global, line: &Option<Vec<u8>>) -> Result<String, AllocError> {
+// A line as it is shown: without the values that stand beside names of secret attributes.
+fn shown_line(
+    alloc: Global,
+    redaction: &Redaction<'_>,
+    line: &Option<Vec<u8>>,
+) -> Result<String, AllocError> {
     match line {
-        Some(octets) => {
-            let visible = visible_text(alloc, octets, LineBreaks::Escaped)?;
-            String::from_utf8_lossy(alloc, &visible)
-        }
+        Some(octets) => shown(alloc, &unread_shown(alloc, redaction, octets)?),
         None => String::from_str(alloc, "(no line)"),
     }
 }
 
-// Says which line differs.
-fn show_other(rt: &HostRuntime, path: &str, other: &OtherLine) -> Result<(), AllocError> {
-    let number = other.number;
-    let expected = shown(rt.alloc(), &other.earlier)?;
-    let now = shown(rt.alloc(), &other.current)?;
-    // Lines may differ in what is not shown.
-    let how = if expected.as_str() == now.as_str() {
+// Whether something of a line of this output is hidden.
+fn hides_something(line: &[u8]) -> bool {
+    line.windows(8).any(|part| part.starts_with(b"(hidden)") || part.starts_with(b"(secret)"))
+}
+
+// The line of the earlier output as it is shown. That output may be of a version that hid less, so where something of the
+// line is hidden now, all of it is.
+fn shown_earlier(
+    alloc: Global,
+    redaction: &Redaction<'_>,
+    other: &OtherLine,
+) -> Result<String, AllocError> {
+    match (&other.earlier, &other.current, redaction.secrets()) {
+        (Some(_), Some(current), SecretValues::Hidden) if hides_something(current) => {
+            String::from_str(alloc, "(hidden)")
+        }
+        (earlier, _, _) => shown_line(alloc, redaction, earlier),
+    }
+}
+
+// What is said where both lines are shown alike: they differ behind what is kept of them, or in what is not shown.
+fn where_alike(other: &OtherLine) -> &'static str {
+    if other.earlier == other.current {
         ", but for its end"
+    } else {
+        ", but for what is not shown"
+    }
+}
+
+// Says which line differs.
+fn show_other(
+    rt: &HostRuntime,
+    redaction: &Redaction<'_>,
+    path: &str,
+    other: &OtherLine,
+) -> Result<(), AllocError> {
+    let number = other.number;
+    let path = shown(rt.alloc(), path.as_bytes())?;
+    let expected = shown_earlier(rt.alloc(), redaction, other)?;
+    let now = shown_line(rt.alloc(), redaction, &other.current)?;
+    let how = if expected.as_str() == now.as_str() {
+        where_alike(other)
     } else {
         ""
     };
@@ -57,6 +93,7 @@ fn show_other(rt: &HostRuntime, path: &str, other: &OtherLine) -> Result<(), All
 /// The status of a replay that ended with this one, where its output differs first in this line from the earlier one.
 pub fn expected_status(
     rt: &HostRuntime,
+    redaction: &Redaction<'_>,
     path: &str,
     other: io::Result<Option<OtherLine>>,
     ended: u8,
@@ -64,7 +101,7 @@ pub fn expected_status(
     match other {
         _ if ended > DIFFERENT => ended,
         Ok(None) => ended,
-        Ok(Some(other)) => match show_other(rt, path, &other) {
+        Ok(Some(other)) => match show_other(rt, redaction, path, &other) {
             Ok(()) => DIFFERENT,
             Err(_) => refuse_early(rt, &Fault::Memory),
         },

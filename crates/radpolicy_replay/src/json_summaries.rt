@@ -1,7 +1,9 @@
 //! What is said at the end of a replay, as JSON.
 
 use crate::command_line::{AgainstPlan, Plan};
-use crate::summaries::{Ended, PolicyTexts, counts_in_order, line_of};
+use crate::counted_lines::{CountedLine, PolicyTexts, counted_lines};
+use crate::summaries::Ended;
+use radpolicy_common::{LineBreaks, visible_text};
 use radpolicy_replay_layouts::push_string;
 use radpolicy_replay_records::Summary;
 use std::alloc::{AllocError, Global};
@@ -25,23 +27,25 @@ fn push_kinds(text: &mut Vec<u8>, plan: &Plan<'_>, summary: &Summary) -> Result<
     push_count(text, "refused", summary.refused)
 }
 
-// The lines of a policy, each with the number of the records that it made different.
-fn push_lines(
-    text: &mut Vec<u8>,
-    path: &str,
-    policy: &[u8],
-    counts: &[(usize, u64)],
-) -> Result<(), AllocError> {
-    for (number, records) in counts {
-        if !text.ends_with(b"[") {
+// A text of a policy or of the command line, without control characters but TAB, which the string escapes.
+fn push_visible(text: &mut Vec<u8>, octets: &[u8]) -> Result<(), AllocError> {
+    let visible = visible_text(*text.allocator(), octets, LineBreaks::Kept)?;
+    push_string(text, &visible)
+}
+
+// The lines of the policies, each with the number of the records that it made different.
+fn push_lines(text: &mut Vec<u8>, lines: &[CountedLine<'_>]) -> Result<(), AllocError> {
+    for (index, line) in lines.iter().enumerate() {
+        if index > 0 {
             text.push(b',')?;
         }
+        let (records, number) = (line.records, line.number);
         let records = format!(in *text.allocator(); "{{\"records\":{records},\"policy\":")?;
         text.extend_from_slice(records.as_bytes())?;
-        push_string(text, path.as_bytes())?;
+        push_visible(text, line.policy.as_bytes())?;
         let place = format!(in *text.allocator(); ",\"line\":{number},\"text\":")?;
         text.extend_from_slice(place.as_bytes())?;
-        push_string(text, line_of(policy, *number))?;
+        push_visible(text, &line.text)?;
         text.push(b'}')?;
     }
     Ok(())
@@ -64,11 +68,8 @@ pub fn json_summary(
         push_count(&mut text, "records_per_second", rate)?;
     }
     text.extend_from_slice(b"\"lines\":[")?;
-    let (new, old) = counts_in_order(alloc, summary.lines.as_slice())?;
-    push_lines(&mut text, plan.policy, texts.new, &new)?;
-    if let Some(path) = plan.old_policy() {
-        push_lines(&mut text, path, texts.old, &old)?;
-    }
+    let lines = counted_lines(alloc, plan, texts, summary.lines.as_slice())?;
+    push_lines(&mut text, &lines)?;
     text.extend_from_slice(b"]}")?;
     Ok(text)
 }

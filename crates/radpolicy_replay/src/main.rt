@@ -3,35 +3,41 @@
 
 mod client_help;
 mod command_line;
+mod counted_lines;
 mod counters;
 mod expected;
 mod json_summaries;
+mod log_watches;
+mod places;
 mod secrets;
 mod streams;
 mod summaries;
 mod to_hex;
 mod traffic;
 
-ghost use Rattle.std.specs.Prelude.{◌<◌, IfErr, IfOk, length};
+ghost use Rattle.std.specs.Prelude.{◌<◌, ◌++◌, IfErr, IfOk, length};
 ghost use Rattle.avp_dict.specs.Lines.{HasDistinctNames};
 ghost use Rattle.radpolicy.specs.Faults.{IsPrintedAnywhere, IsPrintedWith};
+ghost use Rattle.radpolicy_common.specs.Secrets.{IsRedactionOf};
+ghost use Rattle.radpolicy_replay.specs.Redactions.{statements_compared};
 
 use crate::command_line::{Asked, Plan, SecretPlan, help_text, read_words};
+use crate::counted_lines::PolicyTexts;
 use crate::counters::{CountedLines, CountedRecords, Counter};
 use crate::expected::{DIFFERENT, expected_status, open_expected};
+use crate::places::{FileLine, refuse_in, refuse_unread};
 use crate::secrets::{HeldSecrets, held_secrets, read_secret};
 use crate::streams::{flush, refuse_replay, write_text};
-use crate::summaries::{Ended, PolicyTexts, show_summary};
+use crate::summaries::{Ended, show_summary};
 use crate::to_hex::write_packets;
 use crate::traffic::{Traffic, read_beginning};
 use avp_dict::{Dictionary, FileSet};
 use avp_lists::{AttrId, Octets};
 use radpolicy::{Fault, PreparedPolicy, status};
-use radpolicy_common::{Unread, read_dictionary_set, read_file, refuse_early};
-use radpolicy_help::{
-    Source, Sources, explain_name, refuse_explained, refuse_unread_explained, refuse_words_of,
-    tell_help,
+use radpolicy_common::{
+    Hiding, Redaction, Unread, named_attributes, read_dictionary_set, read_file, refuse_early,
 };
+use radpolicy_help::{Source, Sources, refuse_name, refuse_words_of};
 use radpolicy_record_answers::{Against, Comparison};
 use radpolicy_replay_records::{Layout, RecordReader, Records, Replay, ReplayFault, Summary};
 use std::alloc::{AllocError, Global};
@@ -91,6 +97,7 @@ fn run_lines<R: Read + Drop, W: Write>(
 ) -> Result<Ended, ReplayFault> {
     let ended = replay.run(rt.alloc(), &mut lines, out);
     lines.counter.clear();
+    lines.log.tell(rt);
     let summary = ended?;
     Ok(Ended {
         rate: lines.counter.rate(summary.read),
@@ -207,34 +214,10 @@ fn replay_input(
         (Some(path), Some(file)) => {
             let mut watched = Watched::new(rt.alloc(), out, file);
             let status = replay_to(rt, plan, texts, replay, &mut watched);
-            expected_status(rt, path, watched.first_other(), status)
+            expected_status(rt, replay.redaction, path, watched.first_other(), status)
         }
         _ => replay_to(rt, plan, texts, replay, &mut out),
     }
-}
-
-// The attributes of these names, up to the first that the dictionary does not have.
-fn named_attributes<'a>(
-    alloc: Global,
-    dictionary: &Dictionary,
-    names: &[&'a str],
-) -> Result<Result<Vec<AttrId>, &'a str>, AllocError> {
-    let mut ids = Vec::new(alloc);
-    for name in names {
-        match dictionary.by_name(name.as_bytes()) {
-            Some(named) => ids.push(named.id)?,
-            None => return Ok(Err(*name)),
-        }
-    }
-    Ok(Ok(ids))
-}
-
-// A name that is no attribute's, with the name.
-fn refuse_name(rt: &HostRuntime, dictionary: &Dictionary, name: &str) -> u8 {
-    let fault = Fault::OptionValue;
-    let _ = eprintln!(rt; "radpolicy: E02 {name}: {fault}");
-    tell_help(rt, explain_name(rt.alloc(), dictionary, name));
-    status(&fault)
 }
 
 // The policy whose file is read.
@@ -244,24 +227,18 @@ enum Reading {
     Old,
 }
 
-// The policy that answers are compared with, if they are. The name of its file is said before what is wrong with it.
+// The policy that answers are compared with, if they are.
 fn read_against<'a>(
-    rt: &HostRuntime,
+    alloc: Global,
     dictionary: &'a Dictionary,
     plan: &Plan<'_>,
     text: &[u8],
 ) -> Result<Option<PreparedPolicy<'a>>, Fault>
     ensures { IfErr result IsPrintedAnywhere }
 {
-    let Some(path) = plan.old_policy() else {
-        return Ok(None);
-    };
-    match PreparedPolicy::read(rt.alloc(), dictionary, text) {
-        Ok(policy) => Ok(Some(policy)),
-        Err(fault) => {
-            let _ = eprintln!(rt; "radpolicy-replay: {path}:");
-            Err(fault)
-        }
+    match plan.old_policy() {
+        Some(_) => Ok(Some(PreparedPolicy::read(alloc, dictionary, text)?)),
+        None => Ok(None),
     }
 }
 
@@ -291,10 +268,12 @@ fn comparison_of<'a>(
     })
 }
 
-// What a plan says beside its policies: the secrets, and the attributes that are left out where replies are compared.
+// What a plan says beside its policies: the secrets, the attributes that are left out where replies are compared, and
+// those that are hidden besides.
 struct Settings<'a> {
     secrets: HeldSecrets<'a>,
     ignored: Vec<AttrId>,
+    hidden: Vec<AttrId>,
 }
 
 // As a function, so that where settings are dropped a proof sees one step.
@@ -303,6 +282,7 @@ impl<'a> Drop for Settings<'a> {
         let Settings {
             secrets: _,
             ignored: _,
+            hidden: _,
         } = self;
     }
 }
@@ -320,9 +300,63 @@ fn settings_of<'a>(
         Ok(secrets) => secrets,
         Err(status) => return Ok(Err(status)),
     };
-    match named_attributes(rt.alloc(), dictionary, ignored_names(plan))? {
-        Ok(ignored) => Ok(Ok(Settings { secrets, ignored })),
+    let ignored = match named_attributes(rt.alloc(), dictionary, ignored_names(plan))? {
+        Ok(ignored) => ignored,
+        Err(name) => return Ok(Err(refuse_name(rt, dictionary, name))),
+    };
+    match named_attributes(rt.alloc(), dictionary, &plan.hidden)? {
+        Ok(hidden) => Ok(Ok(Settings {
+            secrets,
+            ignored,
+            hidden,
+        })),
         Err(name) => Ok(Err(refuse_name(rt, dictionary, name))),
+    }
+}
+
+// What is hidden by the flows of one policy.
+#[tactic(auto, using(crate::proofs::Redactions::of_one))]
+fn redaction_of_one<'a>(
+    alloc: Global,
+    dictionary: &'a Dictionary,
+    hiding: Hiding<'_>,
+    policy: &PreparedPolicy<'_>,
+) -> Result<Redaction<'a>, AllocError>
+    ensures { IfOk result (λ redaction.
+        IsRedactionOf dictionary.now policy.now.statements hiding.entry redaction) }
+{
+    Redaction::new(alloc, dictionary, hiding, &[policy.policy()])
+}
+
+// What is hidden by those of two.
+#[tactic(auto, using(crate::proofs::Redactions::of_two))]
+fn redaction_of_two<'a>(
+    alloc: Global,
+    dictionary: &'a Dictionary,
+    hiding: Hiding<'_>,
+    policy: &PreparedPolicy<'_>,
+    old: &PreparedPolicy<'_>,
+) -> Result<Redaction<'a>, AllocError>
+    ensures { IfOk result (λ redaction. IsRedactionOf dictionary.now
+        (policy.now.statements ++ old.now.statements) hiding.entry redaction) }
+{
+    Redaction::new(alloc, dictionary, hiding, &[policy.policy(), old.policy()])
+}
+
+// What is hidden, by the flows of all policies: a copy that the old one makes is one in the answers of both.
+fn redaction_of<'a>(
+    alloc: Global,
+    dictionary: &'a Dictionary,
+    hiding: Hiding<'_>,
+    policy: &PreparedPolicy<'_>,
+    against: &Option<PreparedPolicy<'_>>,
+) -> Result<Redaction<'a>, AllocError>
+    ensures { IfOk result (λ redaction. IsRedactionOf dictionary.now
+        (statements_compared policy.now against.now) hiding.entry redaction) }
+{
+    match against {
+        Some(old) => redaction_of_two(alloc, dictionary, hiding, policy, old),
+        None => redaction_of_one(alloc, dictionary, hiding, policy),
     }
 }
 
@@ -341,21 +375,27 @@ fn replay_by(
     let dictionary = Dictionary::read(rt.alloc(), &files.dictionary)?;
     let policy = PreparedPolicy::read(rt.alloc(), &dictionary, files.policy.as_slice())?;
     *reading = Reading::Old;
-    let against = read_against(rt, &dictionary, plan, files.against.as_slice())?;
+    let against = read_against(rt.alloc(), &dictionary, plan, files.against.as_slice())?;
     let settings = match settings_of(rt, plan, &dictionary, files.secret.as_slice())? {
         Ok(settings) => settings,
         Err(status) => return Ok(status),
     };
+    let hiding = Hiding {
+        secrets: plan.secrets,
+        given: &settings.hidden,
+    };
+    let redaction = redaction_of(rt.alloc(), &dictionary, hiding, &policy, &against)?;
     let replay = Replay {
         policy: &policy,
         shared: settings.secrets.shared(),
         comparison: comparison_of(plan, &against, &settings.ignored),
-        secrets: plan.secrets,
+        redaction: &redaction,
         layout: plan.layout,
     };
     let texts = PolicyTexts {
         new: files.policy.as_slice(),
         old: files.against.as_slice(),
+        redaction: &redaction,
     };
     Ok(replay_input(rt, plan, texts, &replay, earlier))
 }
@@ -385,9 +425,26 @@ fn sources_of<'a>(plan: &'a Plan<'a>, files: &'a Files, reading: Reading) -> Sou
         dictionaries: &plan.dictionaries,
         request: nothing,
         is_request_wider: false,
+        hidden: &plan.hidden,
         policy: policy_source(plan, files, reading),
         script: nothing,
         secret: plan.secret.path(),
+    }
+}
+
+// The line that a fault is of, where its file is not the policy's.
+fn place_of<'a>(
+    plan: &Plan<'a>,
+    files: &'a Files,
+    fault: &Fault,
+    reading: Reading,
+) -> Option<FileLine<'a>> {
+    match (reading, fault) {
+        (Reading::Old, Fault::Policy(found)) => Some(FileLine {
+            file: plan.old_policy()?.as_bytes(),
+            line: found.line,
+        }),
+        _ => FileLine::in_dictionary(fault, &files.dictionary),
     }
 }
 
@@ -402,17 +459,18 @@ fn refuse_files(
     requires { IsPrintedWith files.now.dictionary fault.now }
 {
     let sources = sources_of(plan, files, reading);
-    refuse_explained(rt, fault, &files.dictionary, &sources)
+    let place = place_of(plan, files, fault, reading);
+    refuse_in(rt, fault, place, &files.dictionary, &sources)
 }
 
 fn replay_plan(rt: &HostRuntime, plan: &Plan<'_>) -> u8 {
     let files = match read_files(rt, plan) {
         Ok(files) => files,
-        Err(unread) => return refuse_unread_explained(rt, unread),
+        Err(unread) => return refuse_unread(rt, unread),
     };
     let earlier = match open_expected(rt, plan.expected) {
         Ok(earlier) => earlier,
-        Err(unread) => return refuse_unread_explained(rt, unread),
+        Err(unread) => return refuse_unread(rt, unread),
     };
     let mut reading = Reading::New;
     match replay_by(rt, plan, &files, earlier, &mut reading) {

@@ -5,11 +5,12 @@ ghost use Rattle.radpolicy.specs.Faults.{IsPrintedAnywhere};
 
 use crate::client_help::client_help;
 use crate::command_line::SecretPlan;
+use crate::places::{refuse_unread, shown};
 use avp_lists::Octets;
 use radpolicy::{Fault, Secret, status};
 use radpolicy_clients::{ClientFault, Clients, ClientsFault, read_clients};
 use radpolicy_common::{Unread, read_file, refuse_early};
-use radpolicy_help::{refuse_unread_explained, tell_help};
+use radpolicy_help::tell_help;
 use radpolicy_replay_records::SharedSecrets;
 use server_configuration::SystemFiles;
 use std::alloc::{AllocError, Global};
@@ -26,11 +27,11 @@ pub fn read_secret<'a>(rt: &HostRuntime, plan: SecretPlan<'a>) -> Result<Octets,
 
 // Where clients are not read, and what their line includes, if that is not read.
 fn clients_place(alloc: Global, refused: &ClientsFault) -> Result<String, AllocError> {
-    let file = String::from_utf8_lossy(alloc, &refused.path)?;
+    let file = shown(alloc, &refused.path)?;
     let line = refused.line;
     match &refused.unread {
         Some(unread) => {
-            let unread = String::from_utf8_lossy(alloc, unread)?;
+            let unread = shown(alloc, unread)?;
             format!(in alloc; "{file}:{line}: {unread}")
         }
         None => format!(in alloc; "{file}:{line}"),
@@ -41,16 +42,19 @@ fn clients_place(alloc: Global, refused: &ClientsFault) -> Result<String, AllocE
 fn refuse_clients<'a>(rt: &HostRuntime, path: &'a str, refused: &ClientsFault) -> u8 {
     match refused.fault {
         ClientFault::Memory => refuse_early(rt, &Fault::Memory),
-        ClientFault::Unreadable => refuse_unread_explained(rt, Unread::File(path)),
+        ClientFault::Unreadable => refuse_unread(rt, Unread::File(path)),
         ClientFault::Forbidden => {
             let fault = refused.fault;
-            let _ = eprintln!(rt; "radpolicy: E04 {path}: {fault}");
+            let _ = match shown(rt.alloc(), path.as_bytes()) {
+                Ok(path) => eprintln!(rt; "radpolicy: E04 {path}: {fault}"),
+                Err(_) => eprintln!(rt; "radpolicy: E04: {fault}"),
+            };
             status(&Fault::FileNotReadable)
         }
         fault => {
             let _ = match clients_place(rt.alloc(), refused) {
                 Ok(place) => eprintln!(rt; "radpolicy: E02 {place}: {fault}"),
-                Err(_) => eprintln!(rt; "radpolicy: E02 {path}: {fault}"),
+                Err(_) => eprintln!(rt; "radpolicy: E02: {fault}"),
             };
             tell_help(rt, client_help(rt.alloc(), fault));
             status(&Fault::OptionValue)
@@ -89,7 +93,7 @@ pub fn held_secrets<'a>(
         SecretPlan::File(_) => Ok(Ok(HeldSecrets::One(Secret::in_file(octets)?))),
         SecretPlan::Unknown => Ok(Ok(HeldSecrets::Unknown)),
         SecretPlan::Clients(path) => {
-            match read_clients(rt.alloc(), &SystemFiles::new(rt), path.as_bytes()) {
+            match read_clients(rt.alloc(), &SystemFiles::new(rt, &[path]), path.as_bytes()) {
                 Ok(clients) => Ok(Ok(HeldSecrets::ByClient(clients))),
                 Err(refused) => Ok(Err(refuse_clients(rt, path, &refused))),
             }

@@ -1,19 +1,11 @@
 //! What is said at the end of a replay, on standard error.
 
 use crate::command_line::{AgainstPlan, Plan};
+use crate::counted_lines::{PolicyTexts, counted_lines};
 use crate::json_summaries::json_summary;
-use radpolicy_changing_lines::PolicyLine;
-use radpolicy_common::{LineBreaks, visible_text};
-use radpolicy_replay_records::{Layout, LineCount, Summary};
-use std::alloc::{AllocError, Global};
-
-/// The texts of the policies.
-#[derive(Clone, Copy)]
-pub struct PolicyTexts<'a> {
-    pub new: &'a [u8],
-    /// Empty where answers are compared with no policy's.
-    pub old: &'a [u8],
-}
+use crate::places::shown;
+use radpolicy_replay_records::{Layout, Summary};
+use std::alloc::AllocError;
 
 /// What a replay came to.
 #[derive(Drop)]
@@ -45,53 +37,6 @@ fn show_kinds(rt: &HostRuntime, plan: &Plan<'_>, summary: &Summary) {
     };
 }
 
-/// The line of a text with this number, from 1, without the blanks around it.
-pub fn line_of(text: &[u8], number: usize) -> &[u8] {
-    text.split(|octet| *octet == b'\n')
-        .nth(number.saturating_sub(1))
-        .unwrap_or(&[])
-        .trim_ascii()
-}
-
-// The line of a policy as it is shown.
-fn shown_line(alloc: Global, text: &[u8], number: usize) -> Result<String, AllocError> {
-    let visible = visible_text(alloc, line_of(text, number), LineBreaks::Escaped)?;
-    String::from_utf8_lossy(alloc, &visible)
-}
-
-// How many records each line of a policy made different, by the lines' numbers.
-type Counts = Vec<(usize, u64)>;
-
-/// The counts of the lines of the new policy and of the old one, each in the order of lines.
-pub fn counts_in_order(
-    alloc: Global,
-    counts: &[LineCount],
-) -> Result<(Counts, Counts), AllocError> {
-    let (mut new, mut old) = (Vec::new(alloc), Vec::new(alloc));
-    for count in counts {
-        match count.line {
-            PolicyLine::New(line) => new.push((line, count.records))?,
-            PolicyLine::Old(line) => old.push((line, count.records))?,
-        }
-    }
-    new.sort()?;
-    old.sort()?;
-    Ok((new, old))
-}
-
-fn show_counts(
-    rt: &HostRuntime,
-    path: &str,
-    text: &[u8],
-    counts: &[(usize, u64)],
-) -> Result<(), AllocError> {
-    for (number, records) in counts {
-        let line = shown_line(rt.alloc(), text, *number)?;
-        let _ = eprintln!(rt; "  {records} by {path}:{number}: {line}");
-    }
-    Ok(())
-}
-
 // Which lines made records different, and how many each.
 fn show_lines(
     rt: &HostRuntime,
@@ -99,12 +44,13 @@ fn show_lines(
     texts: PolicyTexts<'_>,
     summary: &Summary,
 ) -> Result<(), AllocError> {
-    let (new, old) = counts_in_order(rt.alloc(), summary.lines.as_slice())?;
-    show_counts(rt, plan.policy, texts.new, &new)?;
-    match plan.old_policy() {
-        Some(path) => show_counts(rt, path, texts.old, &old),
-        None => Ok(()),
+    for line in counted_lines(rt.alloc(), plan, texts, summary.lines.as_slice())? {
+        let (records, number) = (line.records, line.number);
+        let path = shown(rt.alloc(), line.policy.as_bytes())?;
+        let text = shown(rt.alloc(), &line.text)?;
+        let _ = eprintln!(rt; "  {records} by {path}:{number}: {text}");
     }
+    Ok(())
 }
 
 /// How many records there were, of which kinds, which lines of the policies made them different, and how fast it went.

@@ -5,6 +5,8 @@ ghost use Rattle.avp_dict.specs.Lines.{HasDistinctNames};
 ghost use Rattle.radpolicy.specs.Faults.{IsPrintedWith};
 
 use crate::command_line::PacketsPlan;
+use crate::log_watches::LogWatch;
+use crate::places::{FileLine, refuse_in, refuse_unread};
 use crate::secrets::{held_secrets, read_secret};
 use crate::streams::{flush, refuse_replay, write_text};
 use crate::traffic::{Traffic, read_beginning};
@@ -12,7 +14,7 @@ use avp_dict::{Dictionary, FileSet};
 use avp_lists::Octets;
 use radpolicy::Fault;
 use radpolicy_common::{read_dictionary_set, refuse_early};
-use radpolicy_help::{Source, Sources, refuse_explained, refuse_unread_explained};
+use radpolicy_help::{Source, Sources};
 use radpolicy_record_answers::{entry_of_record, text_source};
 use radpolicy_replay_records::{RecordReader, Records, ReplayFault, SharedSecrets};
 use radpolicy_traffic::Record;
@@ -38,12 +40,17 @@ struct Making<'a> {
 const BLOCK_OCTETS: usize = 4_096;
 
 // Lines of packets are written as they are.
-fn copy<R: Read + Drop, W: Write>(mut input: R, out: &mut W) -> Result<(), ReplayFault> {
+fn copy<R: Read + Drop, W: Write>(
+    mut input: R,
+    log: &mut LogWatch,
+    out: &mut W,
+) -> Result<(), ReplayFault> {
     let mut block = [0; BLOCK_OCTETS];
     for _ in 0..u64::MAX {
         let Ok(count) = input.read(&mut block) else {
             return Err(ReplayFault::Input);
         };
+        log.look(&block[..count]);
         write_text(out, &block[..count])?;
         flush(out)?;
         if count == 0 {
@@ -98,7 +105,7 @@ fn write_records<R: Records, W: Write>(
 
 // Of lines of packets nothing is counted.
 fn write_traffic<R: Read + Drop, W: Write>(
-    alloc: Global,
+    rt: &HostRuntime,
     making: &Making<'_>,
     traffic: Traffic,
     input: R,
@@ -106,12 +113,15 @@ fn write_traffic<R: Read + Drop, W: Write>(
 ) -> Result<Option<Counts>, ReplayFault> {
     match traffic {
         Traffic::Hex => {
-            copy(input, out)?;
+            let mut log = LogWatch::new(rt.alloc());
+            let copied = copy(input, &mut log, out);
+            log.tell(rt);
+            copied?;
             Ok(None)
         }
         Traffic::Text(format) => {
-            let mut records = RecordReader::new(alloc, input, format)?;
-            Ok(Some(write_records(alloc, making, &mut records, out)?))
+            let mut records = RecordReader::new(rt.alloc(), input, format)?;
+            Ok(Some(write_records(rt.alloc(), making, &mut records, out)?))
         }
     }
 }
@@ -124,11 +134,11 @@ fn write_input<W: Write>(
 ) -> Result<Option<Counts>, ReplayFault> {
     let mut input = rt.stdin();
     if let Some(traffic) = plan.traffic {
-        return write_traffic(rt.alloc(), making, traffic, input, out);
+        return write_traffic(rt, making, traffic, input, out);
     }
     let beginning = read_beginning(rt.alloc(), &mut input)?;
     let whole = beginning.octets.as_slice().chain(input);
-    write_traffic(rt.alloc(), making, beginning.traffic, whole, out)
+    write_traffic(rt, making, beginning.traffic, whole, out)
 }
 
 fn written(rt: &HostRuntime, plan: &PacketsPlan<'_>, making: &Making<'_>) -> u8 {
@@ -180,6 +190,7 @@ fn sources_of<'a>(plan: &'a PacketsPlan<'a>, files: &'a FileSet) -> Sources<'a> 
         dictionaries: &plan.dictionaries,
         request: nothing,
         is_request_wider: false,
+        hidden: &[],
         policy: nothing,
         script: nothing,
         secret: plan.secret.path(),
@@ -190,18 +201,19 @@ fn refuse_files(rt: &HostRuntime, plan: &PacketsPlan<'_>, files: &FileSet, fault
     requires { IsPrintedWith files.now fault.now }
 {
     let sources = sources_of(plan, files);
-    refuse_explained(rt, fault, files, &sources)
+    let place = FileLine::in_dictionary(fault, files);
+    refuse_in(rt, fault, place, files, &sources)
 }
 
 /// Writes the records of standard input as lines of packets.
 pub fn write_packets(rt: &HostRuntime, plan: &PacketsPlan<'_>) -> u8 {
     let files = match read_dictionary_set(rt, plan.dictionaries.as_slice()) {
         Ok(files) => files,
-        Err(unread) => return refuse_unread_explained(rt, unread),
+        Err(unread) => return refuse_unread(rt, unread),
     };
     let secret = match read_secret(rt, plan.secret) {
         Ok(secret) => secret,
-        Err(unread) => return refuse_unread_explained(rt, unread),
+        Err(unread) => return refuse_unread(rt, unread),
     };
     match write_by(rt, plan, &files, &secret) {
         Ok(status) => status,

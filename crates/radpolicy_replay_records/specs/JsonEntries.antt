@@ -12,7 +12,7 @@ use Rattle.radpolicy.specs.Reports.{code_text}
 use Rattle.radpolicy.specs.RunOutcomes.{RunOutcome}
 use Rattle.radpolicy.specs.declared.run_outcomes.Reply.{Reply as Sent}
 use Rattle.radpolicy.specs.declared.run_outcomes.Reply.TheVariants as sent
-use Rattle.radpolicy_common.specs.declared.change_texts.SecretValues.{SecretValues}
+use Rattle.radpolicy_common.specs.Secrets.{Redaction}
 use Rattle.radpolicy_replay_layouts.specs.JsonTexts.{flag, string, strings}
 use Rattle.radpolicy_record_answers.specs.Answers.{hides_reply, refusal_shown, reply_shown}
 use Rattle.radpolicy_record_answers.specs.Captured.{captured_fault_shown, captured_lines, packets_lines, reply_name, same_replies}
@@ -48,11 +48,11 @@ reply_value hides (sent.Packet octets) = string (reply_shown hides (sent.Packet 
 reply_value hides _ = codes "null"
 
 -- an answer that is not compared
-abbrev pub answer_members : Dictionary → SecretValues → Result RunOutcome RecordFault → List ℕ
-answer_members dictionary secrets (Ok outcome) = codes "," ++ result_members outcome.end
+abbrev pub answer_members : Redaction → Result RunOutcome RecordFault → List ℕ
+answer_members redaction (Ok outcome) = codes "," ++ result_members outcome.end
     ++ codes ",\"reply\":"
-    ++ reply_value (hides_reply dictionary secrets outcome.end) outcome.reply
-answer_members dictionary secrets (Err f) = codes "," ++ fault_member (refusal_shown f)
+    ++ reply_value (hides_reply redaction outcome) outcome.reply
+answer_members redaction (Err f) = codes "," ++ fault_member (refusal_shown f)
 
 -- ---- answers that are compared
 
@@ -70,26 +70,26 @@ abbrev pub change_member : List ℕ → List ℕ → List ℕ
 change_member name lines = lines_member name 2 lines
 
 -- how the reply and control lists differ, where both ran
-abbrev pub change_members : SecretValues → Comparison → Result RunOutcome RecordFault
+abbrev pub change_members : Redaction → Comparison → Result RunOutcome RecordFault
     → Result RunOutcome RecordFault → List ℕ
-change_members secrets comparison (Ok old) (Ok new) =
-    change_member (codes "reply_changes") (change_of secrets comparison Reply old new)
-    ++ change_member (codes "control_changes") (change_of secrets comparison Control old new)
-change_members secrets comparison _ _ = []
+change_members redaction comparison (Ok old) (Ok new) =
+    change_member (codes "reply_changes") (change_of redaction comparison Reply old new)
+    ++ change_member (codes "control_changes") (change_of redaction comparison Control old new)
+change_members redaction comparison _ _ = []
 
 -- a record that two policies answer otherwise
-abbrev pub difference_members : SecretValues → Comparison → Result RunOutcome RecordFault
+abbrev pub difference_members : Redaction → Comparison → Result RunOutcome RecordFault
     → Result RunOutcome RecordFault → List ℕ
-difference_members secrets comparison old new =
+difference_members redaction comparison old new =
     codes ",\"old\":{" ++ end_members old ++ codes "},\"new\":{" ++ end_members new ++ codes "}"
-    ++ change_members secrets comparison old new
+    ++ change_members redaction comparison old new
 
 -- the answers of two policies
-unfoldable pub answers_members : SecretValues → Comparison → Result RunOutcome RecordFault
+unfoldable pub answers_members : Redaction → Comparison → Result RunOutcome RecordFault
     → Result RunOutcome RecordFault → List ℕ
-answers_members secrets comparison old new =
+answers_members redaction comparison old new =
     if same_answers comparison old new then codes "," ++ end_members new
-    else difference_members secrets comparison old new
+    else difference_members redaction comparison old new
 
 -- ---- replies that are compared
 
@@ -98,17 +98,17 @@ unfoldable pub reply_string : ℕ → List ℕ
 reply_string code = string (reply_name code)
 
 -- the list of the reply that was captured, where it is shown
-abbrev pub captured_list_member : SecretValues → Dictionary → Comparison → Packet → List ℕ
-captured_list_member secrets dictionary comparison captured =
+abbrev pub captured_list_member : Redaction → Dictionary → Comparison → Packet → List ℕ
+captured_list_member redaction dictionary comparison captured =
     if comparison.shows_replies
-    then lines_member (codes "captured_list") 4 (captured_lines dictionary secrets captured)
+    then lines_member (codes "captured_list") 4 (captured_lines dictionary redaction captured)
     else []
 
 -- that reply
-unfoldable pub captured_member : SecretValues → Dictionary → Comparison → Packet → List ℕ
-captured_member secrets dictionary comparison captured =
+unfoldable pub captured_member : Redaction → Dictionary → Comparison → Packet → List ℕ
+captured_member redaction dictionary comparison captured =
     codes ",\"captured\":" ++ reply_string captured.code
-    ++ captured_list_member secrets dictionary comparison captured
+    ++ captured_list_member redaction dictionary comparison captured
 
 -- the name of a reply, and how its list differs
 unfoldable pub named_changes : ℕ → List ℕ → List ℕ
@@ -121,28 +121,28 @@ own_reply_members removed added comparison captured own =
     named_changes own.code (packets_lines removed added comparison captured own)
 
 -- the same, where it sends one
-abbrev pub own_members : SecretValues → Dictionary → Comparison → Packet → Option Packet → List ℕ
-own_members secrets dictionary comparison captured None = codes "null"
-own_members secrets dictionary comparison captured (Some own) = own_reply_members
-    (removed_line dictionary secrets) (added_line dictionary secrets) comparison captured own
+abbrev pub own_members : Redaction → Dictionary → Comparison → Packet → Option Packet → List ℕ
+own_members redaction dictionary comparison captured None = codes "null"
+own_members redaction dictionary comparison captured (Some own) = own_reply_members
+    (removed_line dictionary redaction) (added_line dictionary redaction) comparison captured own
 
-abbrev pub other_members : SecretValues → Dictionary → Comparison → Packet → Option Packet → List ℕ
-other_members secrets dictionary comparison captured own =
-    captured_member secrets dictionary comparison captured
-    ++ codes ",\"own\":" ++ own_members secrets dictionary comparison captured own
+abbrev pub other_members : Redaction → Dictionary → Comparison → Packet → Option Packet → List ℕ
+other_members redaction dictionary comparison captured own =
+    captured_member redaction dictionary comparison captured
+    ++ codes ",\"own\":" ++ own_members redaction dictionary comparison captured own
 
 -- the reply that was captured, and the policy's own
-unfoldable pub replies_members : SecretValues → Dictionary → Comparison → Replies → List ℕ
-replies_members secrets dictionary comparison (Refused f) =
+unfoldable pub replies_members : Redaction → Dictionary → Comparison → Replies → List ℕ
+replies_members redaction dictionary comparison (Refused f) =
     codes "," ++ fault_member (refusal_shown f)
-replies_members secrets dictionary comparison Unanswered = []
-replies_members secrets dictionary comparison (Unread f) =
+replies_members redaction dictionary comparison Unanswered = []
+replies_members redaction dictionary comparison (Unread f) =
     codes "," ++ fault_member (captured_fault_shown f)
-replies_members secrets dictionary comparison Challenge = []
-replies_members secrets dictionary comparison (Both captured own) =
+replies_members redaction dictionary comparison Challenge = []
+replies_members redaction dictionary comparison (Both captured own) =
     if same_replies comparison captured own
-    then captured_member secrets dictionary comparison captured
-    else other_members secrets dictionary comparison captured own
+    then captured_member redaction dictionary comparison captured
+    else other_members redaction dictionary comparison captured own
 
 -- ---- records
 

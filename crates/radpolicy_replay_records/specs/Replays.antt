@@ -54,18 +54,17 @@ entry_replies replay secret entry =
 -- what is written for a record with this number whose answer is compared with these
 abbrev pub compared_text : Replay → Comparison → Against → ℕ → RecordSecret → Entry → List ℕ
 compared_text replay comparison (Policy against) number secret entry =
-    answers_told replay.secrets comparison (or_number number entry.identifier)
+    answers_told replay.redaction.now comparison (or_number number entry.identifier)
     (answer_by against.now secret entry.request)
     (answer_by replay.policy.now secret entry.request)
 compared_text replay comparison Captured number secret entry =
-    replies_told replay.secrets replay.policy.now.dictionary comparison
+    replies_told replay.redaction.now replay.policy.now.dictionary comparison
     (or_number number entry.identifier) (entry_replies replay secret entry)
 
 -- what is written for a record with this number, where its answer is compared and where it is not
 abbrev pub text_by : Replay → Option Comparison → ℕ → RecordSecret → Entry → List ℕ
 text_by replay None number secret entry = or_number number entry.identifier
-    ++ answer_shown replay.policy.now.dictionary replay.secrets
-    (answer_by replay.policy.now secret entry.request)
+    ++ answer_shown replay.redaction.now (answer_by replay.policy.now secret entry.request)
     ++ codes "\n"
 text_by replay (Some comparison) number secret entry =
     compared_text replay comparison comparison.against number secret entry
@@ -101,16 +100,16 @@ test_of replay strict number secret entry =
 -- what the object of a record has besides its name, where its answer is compared with these
 abbrev pub compared_members : Replay → Comparison → Against → RecordSecret → Entry → List ℕ
 compared_members replay comparison (Policy against) secret entry =
-    answers_members replay.secrets comparison (answer_by against.now secret entry.request)
+    answers_members replay.redaction.now comparison (answer_by against.now secret entry.request)
     (answer_by replay.policy.now secret entry.request)
 compared_members replay comparison Captured secret entry =
-    replies_members replay.secrets replay.policy.now.dictionary comparison
+    replies_members replay.redaction.now replay.policy.now.dictionary comparison
     (entry_replies replay secret entry)
 
 -- the same, where its answer is compared and where it is not
 abbrev pub members_by : Replay → Option Comparison → RecordSecret → Entry → List ℕ
-members_by replay None secret entry = answer_members replay.policy.now.dictionary replay.secrets
-    (answer_by replay.policy.now secret entry.request)
+members_by replay None secret entry =
+    answer_members replay.redaction.now (answer_by replay.policy.now secret entry.request)
 members_by replay (Some comparison) secret entry =
     compared_members replay comparison comparison.against secret entry
 

@@ -85,7 +85,7 @@ impl<'a> Replay<'a> {
         ensures kept { runners.new ≡ runners.old }
     {
         let answer = entry_answer(*text.allocator(), &mut runners.own, secret, entry)?;
-        push_answer_members(text, self.policy.dictionary(), self.secrets, &answer)?;
+        push_answer_members(text, self.redaction, &answer)?;
         match answer {
             Ok(_) => Ok(Verdict::Answered),
             Err(_) => Ok(Verdict::Refused),
@@ -115,7 +115,7 @@ impl<'a> Replay<'a> {
         let printer = Printer {
             old: against.dictionary(),
             new: self.policy.dictionary(),
-            secrets: self.secrets,
+            redaction: self.redaction,
         };
         push_answers_members(comparison, text, &printer, &old, &new)
     }
@@ -137,7 +137,7 @@ impl<'a> Replay<'a> {
     {
         let replies = entry_replies(*text.allocator(), &mut runners.own, secret, entry)?;
         let dictionary = self.policy.dictionary();
-        push_replies_members(comparison, text, dictionary, self.secrets, &replies)
+        push_replies_members(comparison, text, dictionary, self.redaction, &replies)
     }
 
     fn push_members_compared<'b>(

@@ -17,7 +17,7 @@ use avp_dict::Dictionary;
 use avp_lists::List;
 use avp_packet::Packet;
 use radpolicy::{Reply, RunOutcome, code_text};
-use radpolicy_common::SecretValues;
+use radpolicy_common::Redaction;
 use radpolicy_record_answers::{
     CapturedFault, Comparison, Printer, RecordFault, Replies, Verdict, captured_lines, hides_reply,
     push_captured_fault, push_refusal, push_reply, reply_name, verdict_of_same,
@@ -88,17 +88,16 @@ fn push_reply_value(text: &mut Vec<u8>, hides: bool, reply: &Reply) -> Result<()
 /// An answer that is not compared.
 pub(crate) fn push_answer_members(
     text: &mut Vec<u8>,
-    dictionary: &Dictionary,
-    secrets: SecretValues,
+    redaction: &Redaction<'_>,
     answer: &Result<RunOutcome<'_>, RecordFault>,
 ) -> Result<(), AllocError>
     ensures { OnOk result (text.new.items
-        ≡ text.old.items ++ answer_members dictionary.now secrets answer.now) }
+        ≡ text.old.items ++ answer_members redaction.now answer.now) }
 {
     text.push(b',')?;
     match answer {
         Ok(outcome) => {
-            let hides = hides_reply(dictionary, secrets, outcome)?;
+            let hides = hides_reply(redaction, outcome)?;
             push_result_members(text, outcome)?;
             text.extend_from_slice(b",\"reply\":")?;
             push_reply_value(text, hides, outcome.reply())
@@ -186,17 +185,17 @@ fn push_captured_list_member(
     comparison: &Comparison<'_>,
     text: &mut Vec<u8>,
     dictionary: &Dictionary,
-    secrets: SecretValues,
+    redaction: &Redaction<'_>,
     captured: &Packet,
 ) -> Result<(), AllocError>
     requires { PacketFits dictionary.now captured.now }
     ensures { OnOk result (text.new.items ≡ text.old.items
-        ++ captured_list_member secrets dictionary.now comparison.now captured.now) }
+        ++ captured_list_member redaction.now dictionary.now comparison.now captured.now) }
 {
     if !comparison.shows_replies {
         return Ok(());
     }
-    let lines = captured_lines(*text.allocator(), dictionary, secrets, captured)?;
+    let lines = captured_lines(*text.allocator(), dictionary, redaction, captured)?;
     push_lines_member(text, b"captured_list", 4, &lines)
 }
 
@@ -206,16 +205,16 @@ fn push_captured_member(
     comparison: &Comparison<'_>,
     text: &mut Vec<u8>,
     dictionary: &Dictionary,
-    secrets: SecretValues,
+    redaction: &Redaction<'_>,
     captured: &Packet,
 ) -> Result<(), AllocError>
     requires { PacketFits dictionary.now captured.now }
     ensures { OnOk result (text.new.items ≡ text.old.items
-        ++ captured_member secrets dictionary.now comparison.now captured.now) }
+        ++ captured_member redaction.now dictionary.now comparison.now captured.now) }
 {
     text.extend_from_slice(b",\"captured\":")?;
     push_reply_name(text, captured.code)?;
-    push_captured_list_member(comparison, text, dictionary, secrets, captured)
+    push_captured_list_member(comparison, text, dictionary, redaction, captured)
 }
 
 fn push_change_members_of_ends(
@@ -228,7 +227,7 @@ fn push_change_members_of_ends(
     requires old { old.now.dictionary ≡ printer.now.old.now }
     requires new { new.now.dictionary ≡ printer.now.new.now }
     ensures { OnOk result (text.new.items ≡ text.old.items
-        ++ change_members printer.now.secrets comparison.now (Ok old.now) (Ok new.now)) }
+        ++ change_members printer.now.redaction.now comparison.now (Ok old.now) (Ok new.now)) }
 {
     let alloc = *text.allocator();
     let reply = comparison.change_of(alloc, printer, List::Reply, old, new)?;
@@ -248,7 +247,7 @@ fn push_change_members(
     requires old { IsOver printer.now.old.now old.now }
     requires new { IsOver printer.now.new.now new.now }
     ensures { OnOk result (text.new.items
-        ≡ text.old.items ++ change_members printer.now.secrets comparison.now old.now new.now) }
+        ≡ text.old.items ++ change_members printer.now.redaction.now comparison.now old.now new.now) }
 {
     if let Ok(old) = old {
         if let Ok(new) = new {
@@ -269,7 +268,7 @@ fn push_difference_members(
     requires old { IsOver printer.now.old.now old.now }
     requires new { IsOver printer.now.new.now new.now }
     ensures { OnOk result (text.new.items
-        ≡ text.old.items ++ difference_members printer.now.secrets comparison.now old.now new.now) }
+        ≡ text.old.items ++ difference_members printer.now.redaction.now comparison.now old.now new.now) }
 {
     text.extend_from_slice(b",\"old\":{")?;
     push_end_members(text, old)?;
@@ -291,7 +290,7 @@ pub(crate) fn push_answers_members(
     requires old { IsOver printer.now.old.now old.now }
     requires new { IsOver printer.now.new.now new.now }
     ensures text { OnOk result (text.new.items
-        ≡ text.old.items ++ answers_members printer.now.secrets comparison.now old.now new.now) }
+        ≡ text.old.items ++ answers_members printer.now.redaction.now comparison.now old.now new.now) }
     ensures verdict { IfOk result (λ verdict.
         verdict ≡ verdict_of_answers comparison.now old.now new.now) }
 {
@@ -315,8 +314,8 @@ fn push_own_reply(
     requires captured { PacketFits printer.now.old.now captured.now }
     requires own { PacketFits printer.now.new.now own.now }
     ensures { OnOk result (text.new.items ≡ text.old.items ++ own_reply_members
-        (removed_line printer.now.old.now printer.now.secrets)
-        (added_line printer.now.new.now printer.now.secrets) comparison.now captured.now own.now) }
+        (removed_line printer.now.old.now printer.now.redaction.now)
+        (added_line printer.now.new.now printer.now.redaction.now) comparison.now captured.now own.now) }
 {
     let lines = comparison.packets_lines(*text.allocator(), printer, captured, own)?;
     push_named_changes(text, own.code, &lines)
@@ -327,14 +326,14 @@ fn push_own_members(
     comparison: &Comparison<'_>,
     text: &mut Vec<u8>,
     dictionary: &Dictionary,
-    secrets: SecretValues,
+    redaction: &Redaction<'_>,
     captured: &Packet,
     own: &Option<Packet>,
 ) -> Result<(), AllocError>
     requires captured { PacketFits dictionary.now captured.now }
     requires own { OwnFits dictionary.now own.now }
     ensures { OnOk result (text.new.items ≡ text.old.items
-        ++ own_members secrets dictionary.now comparison.now captured.now own.now) }
+        ++ own_members redaction.now dictionary.now comparison.now captured.now own.now) }
 {
     let Some(own) = own else {
         text.extend_from_slice(b"null")?;
@@ -343,7 +342,7 @@ fn push_own_members(
     let printer = Printer {
         old: dictionary,
         new: dictionary,
-        secrets,
+        redaction,
     };
     push_own_reply(comparison, text, &printer, captured, own)
 }
@@ -352,18 +351,18 @@ fn push_other_members(
     comparison: &Comparison<'_>,
     text: &mut Vec<u8>,
     dictionary: &Dictionary,
-    secrets: SecretValues,
+    redaction: &Redaction<'_>,
     captured: &Packet,
     own: &Option<Packet>,
 ) -> Result<(), AllocError>
     requires captured { PacketFits dictionary.now captured.now }
     requires own { OwnFits dictionary.now own.now }
     ensures { OnOk result (text.new.items ≡ text.old.items
-        ++ other_members secrets dictionary.now comparison.now captured.now own.now) }
+        ++ other_members redaction.now dictionary.now comparison.now captured.now own.now) }
 {
-    push_captured_member(comparison, text, dictionary, secrets, captured)?;
+    push_captured_member(comparison, text, dictionary, redaction, captured)?;
     text.extend_from_slice(b",\"own\":")?;
-    push_own_members(comparison, text, dictionary, secrets, captured, own)
+    push_own_members(comparison, text, dictionary, redaction, captured, own)
 }
 
 // Two replies, and what became of their record.
@@ -372,22 +371,22 @@ fn push_both_members(
     comparison: &Comparison<'_>,
     text: &mut Vec<u8>,
     dictionary: &Dictionary,
-    secrets: SecretValues,
+    redaction: &Redaction<'_>,
     captured: &Packet,
     own: &Option<Packet>,
 ) -> Result<Verdict, AllocError>
     requires captured { PacketFits dictionary.now captured.now }
     requires own { OwnFits dictionary.now own.now }
     ensures text { OnOk result (text.new.items ≡ text.old.items
-        ++ replies_members secrets dictionary.now comparison.now (Both captured.now own.now)) }
+        ++ replies_members redaction.now dictionary.now comparison.now (Both captured.now own.now)) }
     ensures verdict { IfOk result (λ verdict.
         verdict ≡ verdict_of_replies comparison.now (Both captured.now own.now)) }
 {
     if comparison.same_replies(*text.allocator(), captured, own)? {
-        push_captured_member(comparison, text, dictionary, secrets, captured)?;
+        push_captured_member(comparison, text, dictionary, redaction, captured)?;
         return Ok(Verdict::Same);
     }
-    push_other_members(comparison, text, dictionary, secrets, captured, own)?;
+    push_other_members(comparison, text, dictionary, redaction, captured, own)?;
     Ok(Verdict::Different)
 }
 
@@ -397,12 +396,12 @@ pub(crate) fn push_replies_members(
     comparison: &Comparison<'_>,
     text: &mut Vec<u8>,
     dictionary: &Dictionary,
-    secrets: SecretValues,
+    redaction: &Redaction<'_>,
     replies: &Replies,
 ) -> Result<Verdict, AllocError>
     requires { RepliesFit dictionary.now replies.now }
     ensures text { OnOk result (text.new.items
-        ≡ text.old.items ++ replies_members secrets dictionary.now comparison.now replies.now) }
+        ≡ text.old.items ++ replies_members redaction.now dictionary.now comparison.now replies.now) }
     ensures verdict { IfOk result (λ verdict.
         verdict ≡ verdict_of_replies comparison.now replies.now) }
 {
@@ -420,7 +419,7 @@ pub(crate) fn push_replies_members(
         }
         Replies::Challenge => Ok(Verdict::Challenged),
         Replies::Both { captured, own } => {
-            push_both_members(comparison, text, dictionary, secrets, captured, own)
+            push_both_members(comparison, text, dictionary, redaction, captured, own)
         }
     }
 }

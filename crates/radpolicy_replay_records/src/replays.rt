@@ -22,7 +22,7 @@ use crate::summaries::Summary;
 use radpolicy::{PreparedPolicy, Secret};
 use radpolicy_changing_lines::PolicyLine;
 use radpolicy_clients::Clients;
-use radpolicy_common::SecretValues;
+use radpolicy_common::Redaction;
 use radpolicy_record_answers::{
     Against, Comparison, Entry, MAX_LINE_OCTETS, Printer, RecordSecret, Verdict, answer_over,
     entry_answer, entry_of_line, entry_of_record, entry_replies, push_name, push_outcome,
@@ -79,14 +79,14 @@ pub enum SharedSecrets<'a> {
 }
 
 /// What is asked of records: which policy answers them, by which secrets, what its answers are compared with, and what
-/// is shown of secret values.
+/// is hidden of what is printed.
 #[derive(Drop)]
 pub struct Replay<'a> {
     pub policy: &'a PreparedPolicy<'a>,
     pub shared: SharedSecrets<'a>,
     /// `None`: each record is answered.
     pub comparison: Option<Comparison<'a>>,
-    pub secrets: SecretValues,
+    pub redaction: &'a Redaction<'a>,
     pub layout: Layout,
 }
 
@@ -202,7 +202,7 @@ impl<'a> Replay<'a> {
     ) -> Result<Verdict, AllocError>
         requires runners { runners.old.own ≡ self.now.policy.now }
         ensures text { OnOk result (text.new.items ≡ text.old.items
-            ++ answer_shown self.now.policy.now.dictionary self.now.secrets
+            ++ answer_shown self.now.redaction.now
             (answer_by self.now.policy.now secret.now entry.now.request)) }
         ensures verdict { IfOk result (λ verdict. verdict
             ≡ verdict_by (answer_by self.now.policy.now secret.now entry.now.request)) }
@@ -210,7 +210,7 @@ impl<'a> Replay<'a> {
     {
         match entry_answer(*text.allocator(), &mut runners.own, secret, entry)? {
             Ok(outcome) => {
-                push_outcome(text, self.policy.dictionary(), self.secrets, &outcome)?;
+                push_outcome(text, self.redaction, &outcome)?;
                 Ok(Verdict::Answered)
             }
             Err(fault) => {
@@ -269,7 +269,7 @@ impl<'a> Replay<'a> {
         let printer = Printer {
             old: against.dictionary(),
             new: self.policy.dictionary(),
-            secrets: self.secrets,
+            redaction: self.redaction,
         };
         comparison.push_answers(text, &printer, &name, &old, &new)
     }
@@ -296,7 +296,7 @@ impl<'a> Replay<'a> {
         push_name(&mut name, number, entry.identifier.as_slice())?;
         let replies = entry_replies(alloc, &mut runners.own, secret, entry)?;
         let dictionary = self.policy.dictionary();
-        comparison.push_replies(text, dictionary, self.secrets, &name, &replies)
+        comparison.push_replies(text, dictionary, self.redaction, &name, &replies)
     }
 
     // What is said of a record whose answer is compared.

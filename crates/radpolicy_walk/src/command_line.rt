@@ -33,6 +33,8 @@ const SCRIPT: &str = "script";
 
 const SHOW_SECRETS: &str = "show-secrets";
 
+const HIDE: &str = "hide";
+
 const DICTIONARY: &str = "dictionary";
 
 /// What a command line asks for.
@@ -52,6 +54,8 @@ pub struct Plan<'a> {
     /// The file of the commands; standard input where there is none.
     pub script: Option<&'a str>,
     pub secrets: SecretValues,
+    /// The names of attributes that are hidden as well.
+    pub hidden: Vec<&'a str>,
     pub dictionaries: Vec<&'a str>,
 }
 
@@ -108,6 +112,14 @@ fn script_option<'a>(alloc: Global) -> Arg<'a> {
     file_option(alloc, SCRIPT, "SCRIPT", help).long(SCRIPT)
 }
 
+fn hide_option<'a>(alloc: Global) -> Arg<'a> {
+    Arg::new(alloc, HIDE)
+        .long(HIDE)
+        .value_name("NAME")
+        .action(ArgAction::Append)
+        .help("Hides the values of an attribute too; may be given more than once")
+}
+
 fn dictionary_files<'a>(alloc: Global) -> Arg<'a> {
     Arg::new(alloc, DICTIONARY)
         .required(true)
@@ -141,6 +153,7 @@ fn program<'a>(alloc: Global) -> Result<clap::Command<'a>, AllocError> {
         .arg(zone_option(alloc))?
         .arg(script_option(alloc))?
         .arg(flag(alloc, SHOW_SECRETS, "Shows passwords and keys"))?
+        .arg(hide_option(alloc))?
         .arg(dictionary_files(alloc))
 }
 
@@ -201,6 +214,13 @@ fn shown_secrets(found: &ArgMatches<'_>) -> SecretValues {
     }
 }
 
+fn hidden_names<'a>(alloc: Global, found: &ArgMatches<'a>) -> Result<Vec<&'a str>, AllocError> {
+    match found.get_strs(HIDE) {
+        Some(names) => Vec::from_slice(alloc, names),
+        None => Ok(Vec::new(alloc)),
+    }
+}
+
 fn plan_of<'a>(alloc: Global, found: &ArgMatches<'a>) -> Result<Plan<'a>, Fault>
     ensures { IfErr result IsWordFault }
 {
@@ -222,6 +242,7 @@ fn plan_of<'a>(alloc: Global, found: &ArgMatches<'a>) -> Result<Plan<'a>, Fault>
         zone: zone_of(found)?,
         script,
         secrets: shown_secrets(found),
+        hidden: hidden_names(alloc, found)?,
         dictionaries: Vec::from_slice(alloc, files)?,
     })
 }

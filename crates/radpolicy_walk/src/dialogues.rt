@@ -4,7 +4,7 @@ use avp_dict::{LineFault, LineKind, next_line};
 use avp_forms::{Profile, read_request};
 use avp_lists::{EditFault, List, Pair};
 use radpolicy::{Fault, PreparedPolicy, RequestHead, Start};
-use radpolicy_common::{LineBreaks, PLAIN_STYLE, SecretValues, Stream, Style, visible_text};
+use radpolicy_common::{Hiding, LineBreaks, PLAIN_STYLE, Stream, Style, visible_text};
 use radpolicy_walk_commands::{
     Asked, Command, HELP_TEXT, Session, SourceLines, around_text, breaks_text, has_step_on,
     history_text, instances_text, lists_text, nearest_line, read_command, source_text, trace_text,
@@ -38,17 +38,44 @@ impl<T: Drop> From<AllocFailed<T>> for Ending {
     }
 }
 
+/// By what the run begins anew.
+#[derive(Clone, Copy)]
+pub struct Beginning<'a> {
+    pub policy: &'a PreparedPolicy<'a>,
+    pub head: RequestHead,
+    /// By it dates are read.
+    pub zone: Option<i16>,
+    pub hiding: Hiding<'a>,
+}
+
+/// The lines of the policy's text.
+#[derive(Drop)]
+pub struct PolicyLines<'a> {
+    read: SourceLines<'a>,
+    // The same, as they are shown.
+    shown: SourceLines<'a>,
+}
+
+impl<'a> PolicyLines<'a> {
+    /// Those of the text that was read, and of what is shown of it.
+    pub fn new(
+        alloc: Global,
+        text: &'a [u8],
+        shown: &'a [u8],
+    ) -> Result<PolicyLines<'a>, AllocError> {
+        Ok(PolicyLines {
+            read: SourceLines::new(alloc, text)?,
+            shown: SourceLines::new(alloc, shown)?,
+        })
+    }
+}
+
 /// A session with the policy's text, and how it is shown.
 #[derive(Drop)]
-pub struct Dialogue<'a> {
-    policy: &'a PreparedPolicy<'a>,
-    // With it the run begins anew.
-    head: RequestHead,
-    // By it dates are read.
-    zone: Option<i16>,
+pub struct Dialogue<'a, 't> {
+    beginning: Beginning<'a>,
     session: Session<'a>,
-    sources: SourceLines<'a>,
-    secrets: SecretValues,
+    lines: PolicyLines<'t>,
     last: Command,
     is_coloured: bool,
 }
@@ -100,20 +127,49 @@ fn coloured(alloc: Global, text: &[u8]) -> Result<Vec<u8>, AllocError> {
     Ok(shown)
 }
 
-// Says why a line is no command.
-fn complain(rt: &HostRuntime, asked: Asked<'_>) {
-    let _ = match asked {
-        Asked::Make(_) | Asked::Set(_, _) | Asked::Again => Ok(()),
+// A word of a line that is no command, as it is told: behind a `=` there may be a secret value.
+fn told(word: &str) -> &str {
+    match word.split_once('=') {
+        Some((before, _)) => before,
+        None => word,
+    }
+}
+
+// Why a line is no command.
+fn complaint(alloc: Global, asked: Asked<'_>) -> Result<String, AllocError> {
+    match asked {
+        Asked::Make(_) | Asked::Set(_, _) | Asked::Again => Ok(String::new(alloc)),
         Asked::Unknown(word, nearest) => {
-            eprintln!(rt; "no command {word:?}; the nearest is {nearest}")
+            let word = told(word);
+            format!(in alloc; "no command \"{word}\"; the nearest is {nearest}\n")
         }
-        Asked::Misused(usage) => eprintln!(rt; "write: {usage}"),
-        Asked::NoNumber(word) => eprintln!(rt; "{word:?} is no number"),
-        Asked::NoAttribute(word) => eprintln!(rt; "no attribute {word:?}"),
+        Asked::Misused(usage) => format!(in alloc; "write: {usage}\n"),
+        Asked::NoNumber(word) => {
+            let word = told(word);
+            format!(in alloc; "\"{word}\" is no number\n")
+        }
+        Asked::NoAttribute(word) => {
+            let word = told(word);
+            format!(in alloc; "no attribute \"{word}\"\n")
+        }
         Asked::NoList(word) => {
-            eprintln!(rt; "no list {word:?}; they are request, reply and control")
+            let word = told(word);
+            format!(in alloc; "no list \"{word}\"; they are request, reply and control\n")
         }
-    };
+    }
+}
+
+// Says why a line is no command.
+fn complain(rt: &HostRuntime, asked: Asked<'_>) -> Result<(), Ending> {
+    let said = complaint(rt.alloc(), asked)?;
+    let visible = visible_text(rt.alloc(), said.as_bytes(), LineBreaks::Kept)?;
+    let _ = rt.stderr().write_all(&visible);
+    Ok(())
+}
+
+// Says that a line is no text, and so no command.
+fn complain_of_octets(rt: &HostRuntime) {
+    let _ = eprintln!(rt; "no command: the line is not UTF-8");
 }
 
 // Why an attribute is not set; none where memory is short.
@@ -135,27 +191,21 @@ fn refused(rt: &HostRuntime, fault: Fault) -> Result<(), Ending> {
     Ok(())
 }
 
-impl<'a> Dialogue<'a> {
-    /// A dialogue over the run from a start of this policy.
+impl<'a, 't> Dialogue<'a, 't> {
+    /// A dialogue over the run of a session.
     pub fn new(
         rt: &HostRuntime,
-        policy: &'a PreparedPolicy<'a>,
-        head: RequestHead,
-        start: Start<'a>,
-        zone: Option<i16>,
-        text: &'a [u8],
-        secrets: SecretValues,
-    ) -> Result<Dialogue<'a>, AllocError> {
-        Ok(Dialogue {
-            policy,
-            head,
-            zone,
-            session: Session::new(rt.alloc(), start)?,
-            sources: SourceLines::new(rt.alloc(), text)?,
-            secrets,
+        beginning: Beginning<'a>,
+        session: Session<'a>,
+        lines: PolicyLines<'t>,
+    ) -> Dialogue<'a, 't> {
+        Dialogue {
+            beginning,
+            session,
+            lines,
             last: Command::Show(None),
             is_coloured: Stream::Output.is_coloured(rt),
-        })
+        }
     }
 
     // Shows a text, without control characters.
@@ -172,13 +222,13 @@ impl<'a> Dialogue<'a> {
     fn place_text(&self, alloc: Global) -> Result<Vec<u8>, AllocError> {
         let mut text = self.session.place_text(alloc)?;
         text.extend_from_slice(b"\n")?;
-        text.extend_from_slice(&source_text(alloc, &self.session, &self.sources)?)?;
+        text.extend_from_slice(&source_text(alloc, &self.session, &self.lines.shown)?)?;
         Ok(text)
     }
 
     // What a command comes to that leads to a place.
     fn moved_text(&mut self, alloc: Global, command: Command) -> Result<Vec<u8>, AllocError> {
-        let changes = self.session.change(alloc, command, self.secrets)?;
+        let changes = self.session.change(alloc, command)?;
         let mut text = self.place_text(alloc)?;
         text.extend_from_slice(&changes)?;
         Ok(text)
@@ -187,7 +237,7 @@ impl<'a> Dialogue<'a> {
     fn lists_text(&self, alloc: Global, command: Command) -> Result<Vec<u8>, AllocError> {
         let mut text = self.place_text(alloc)?;
         if let Command::Show(which) = command {
-            let lists = lists_text(alloc, &self.session, self.secrets, which)?;
+            let lists = lists_text(alloc, &self.session, which)?;
             text.extend_from_slice(&lists)?;
         }
         Ok(text)
@@ -195,15 +245,15 @@ impl<'a> Dialogue<'a> {
 
     // What a command comes to.
     fn text_of(&mut self, alloc: Global, command: Command) -> Result<Vec<u8>, AllocError> {
-        let secrets = self.secrets;
+        let lines = &self.lines;
         match command {
             Command::Show(_) => self.lists_text(alloc, command),
-            Command::Print(id) => instances_text(alloc, &self.session, secrets, id),
-            Command::History(id) => history_text(alloc, &mut self.session, secrets, id),
-            Command::Why => why_text(alloc, &mut self.session, &self.sources, secrets),
-            Command::Trace => trace_text(alloc, &self.session, &self.sources),
-            Command::List => around_text(alloc, &self.session, &self.sources),
-            Command::Breaks => breaks_text(alloc, &self.session, &self.sources),
+            Command::Print(id) => instances_text(alloc, &self.session, id),
+            Command::History(id) => history_text(alloc, &mut self.session, id),
+            Command::Why => why_text(alloc, &mut self.session, &lines.read, &lines.shown),
+            Command::Trace => trace_text(alloc, &self.session, &lines.shown),
+            Command::List => around_text(alloc, &self.session, &lines.shown),
+            Command::Breaks => breaks_text(alloc, &self.session, &lines.shown),
             Command::Help => Vec::from_slice(alloc, HELP_TEXT.as_bytes()),
             _ => self.moved_text(alloc, command),
         }
@@ -244,7 +294,7 @@ impl<'a> Dialogue<'a> {
             alloc,
             dictionary,
             Profile::Wider,
-            self.zone,
+            self.beginning.zone,
             line.as_bytes(),
         )?;
         match (pairs.pop(), pairs.is_empty()) {
@@ -275,7 +325,8 @@ impl<'a> Dialogue<'a> {
                 }));
             }
         };
-        Start::of_pairs(alloc, self.policy, None, self.head, lists.request)?
+        let Beginning { policy, head, .. } = self.beginning;
+        Start::of_pairs(alloc, policy, None, head, lists.request)?
             .with_reply(lists.reply)?
             .with_control(lists.control)
     }
@@ -285,7 +336,8 @@ impl<'a> Dialogue<'a> {
     fn set(&mut self, rt: &HostRuntime, list: List, line: &str) -> Result<(), Ending> {
         match self.start_with(rt.alloc(), list, line) {
             Ok(start) => {
-                self.session.begin_anew(rt.alloc(), start)?;
+                self.session
+                    .begin_anew(rt.alloc(), start, self.beginning.hiding)?;
                 let text = self.lists_text(rt.alloc(), Command::Show(Some(list)))?;
                 self.show(rt, &text)
             }
@@ -300,7 +352,7 @@ impl<'a> Dialogue<'a> {
             Asked::Make(command) => self.make(rt, command)?,
             Asked::Set(list, line) => self.set(rt, list, line)?,
             Asked::Again => self.make(rt, self.last)?,
-            asked => complain(rt, asked),
+            asked => complain(rt, asked)?,
         }
         Ok(true)
     }
@@ -317,6 +369,7 @@ impl<'a> Dialogue<'a> {
                 Err(error) if error.kind() == io::ErrorKind::OutOfMemory => {
                     return Err(Ending::Memory);
                 }
+                Err(error) if error.kind() == io::ErrorKind::InvalidData => complain_of_octets(rt),
                 Err(_) => return Err(Ending::Input),
             }
             prompt(rt)?;
@@ -327,11 +380,13 @@ impl<'a> Dialogue<'a> {
     fn obey_script(&mut self, rt: &HostRuntime, script: &[u8]) -> Result<(), Ending> {
         let mut rest = script;
         while let Some((line, after)) = next_line(rest) {
-            let Ok(line) = str::from_utf8(line) else {
-                return Err(Ending::Input);
-            };
-            if !self.obey(rt, line)? {
-                return Ok(());
+            match str::from_utf8(line) {
+                Ok(line) => {
+                    if !self.obey(rt, line)? {
+                        return Ok(());
+                    }
+                }
+                Err(_) => complain_of_octets(rt),
             }
             rest = after;
         }

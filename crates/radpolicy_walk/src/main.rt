@@ -10,21 +10,23 @@ ghost use Rattle.avp_dict.specs.Lines.{HasDistinctNames};
 ghost use Rattle.radpolicy.specs.Faults.{IsPrintedAnywhere, IsPrintedWith};
 
 use crate::command_line::{Plan, help_text, read_words};
-use crate::dialogues::{Dialogue, Ending};
+use crate::dialogues::{Beginning, Dialogue, Ending, PolicyLines};
 use crate::records::{form_of_record, read_record};
 use avp_dict::{Dictionary, FileSet};
 use avp_forms::Profile;
-use avp_lists::Octets;
+use avp_lists::{AttrId, Octets};
 use hex::FromHexError;
 use radpolicy::{Fault, Form, PreparedPolicy, RequestHead, RequestKind, Secret, Start, status};
 use radpolicy_common::{
-    Unread, read_dictionary_set, read_file, read_optional, read_standard_input, refuse,
-    refuse_early, refuse_unread,
+    Hiding, Unread, named_attributes, policy_shown, read_dictionary_set, read_file, read_optional,
+    read_standard_input, refuse, refuse_early, refuse_unread,
 };
 use radpolicy_help::{
-    STANDARD_INPUT, Source, Sources, refuse_explained, refuse_unread_explained, refuse_words_of,
+    STANDARD_INPUT, Source, Sources, refuse_explained, refuse_name, refuse_unread_explained,
+    refuse_words_of,
 };
 use radpolicy_traffic::Record;
+use radpolicy_walk_commands::Session;
 use std::alloc::{AllocError, Global};
 use std::io;
 use std::process::ExitCode;
@@ -193,6 +195,55 @@ fn status_of_ending(rt: &HostRuntime, ending: Ending) -> u8 {
     }
 }
 
+// A walk over the run from a start, by the commands of the script or of standard input.
+fn walk_from<'a>(
+    rt: &HostRuntime,
+    beginning: Beginning<'a>,
+    start: Start<'a>,
+    files: &Files,
+) -> Result<Ending, AllocError> {
+    let alloc = rt.alloc();
+    let text = files.policy.as_slice();
+    let session = Session::new(alloc, start, beginning.hiding)?;
+    let shown = policy_shown(alloc, session.redaction(), text)?;
+    let lines = PolicyLines::new(alloc, text, &shown)?;
+    let mut dialogue = Dialogue::new(rt, beginning, session, lines);
+    Ok(match &files.script {
+        Some(script) => dialogue.follow_script(rt, script.as_slice()),
+        None => dialogue.follow_input(rt),
+    })
+}
+
+// What is read of the files by a dictionary, and the walk by it. These attributes are hidden as well.
+fn walk_with(
+    rt: &HostRuntime,
+    plan: &Plan<'_>,
+    form: Form,
+    files: &Files,
+    dictionary: &Dictionary,
+    given: &[AttrId],
+) -> Result<u8, Fault>
+    ensures { IfErr result IsPrintedAnywhere }
+{
+    let alloc = rt.alloc();
+    let secret = secret_in(&files.secret)?;
+    let policy = PreparedPolicy::read(alloc, dictionary, files.policy.as_slice())?;
+    let (secret, request) = (secret.as_ref(), files.request.as_slice());
+    let start = start_by(alloc, &policy, secret, form, plan.zone, request)?;
+    let start = with_lists(alloc, start, plan.zone, files)?;
+    let beginning = Beginning {
+        policy: &policy,
+        head: head_by(form),
+        zone: plan.zone,
+        hiding: Hiding {
+            secrets: plan.secrets,
+            given,
+        },
+    };
+    let ending = walk_from(rt, beginning, start, files)?;
+    Ok(status_of_ending(rt, ending))
+}
+
 // What is read of the files, and the walk by it.
 fn walk_by(rt: &HostRuntime, plan: &Plan<'_>, form: Form, files: &Files) -> Result<u8, Fault>
     requires first { 0 < length files.now.dictionary }
@@ -201,31 +252,12 @@ fn walk_by(rt: &HostRuntime, plan: &Plan<'_>, form: Form, files: &Files) -> Resu
 {
     let alloc = rt.alloc();
     let dictionary = Dictionary::read(alloc, &files.dictionary)?;
-    let secret = secret_in(&files.secret)?;
-    let policy = PreparedPolicy::read(alloc, &dictionary, files.policy.as_slice())?;
-    let start = start_by(
-        alloc,
-        &policy,
-        secret.as_ref(),
-        form,
-        plan.zone,
-        files.request.as_slice(),
-    )?;
-    let start = with_lists(alloc, start, plan.zone, files)?;
-    let mut dialogue = Dialogue::new(
-        rt,
-        &policy,
-        head_by(form),
-        start,
-        plan.zone,
-        files.policy.as_slice(),
-        plan.secrets,
-    )?;
-    let ending = match &files.script {
-        Some(script) => dialogue.follow_script(rt, script.as_slice()),
-        None => dialogue.follow_input(rt),
+    let given = match named_attributes(alloc, &dictionary, &plan.hidden)? {
+        Ok(given) => given,
+        Err(name) => return Ok(refuse_name(rt, &dictionary, name)),
     };
-    Ok(status_of_ending(rt, ending))
+    let status = walk_with(rt, plan, form, files, &dictionary, &given)?;
+    Ok(status)
 }
 
 fn octets_in(file: &Option<Octets>) -> &[u8] {
@@ -274,6 +306,7 @@ fn sources_of<'a>(
         dictionaries: &plan.dictionaries,
         request: lines_with(plan, files, request, fault),
         is_request_wider: true,
+        hidden: &plan.hidden,
         policy: Source {
             path: plan.policy,
             text: files.policy.as_slice(),

@@ -13,7 +13,7 @@ use Rattle.radpolicy_common.specs.Changes.{after_of, before_of, is_kept, is_need
 use Rattle.radpolicy_common.specs.ChangeTexts.{change_text}
 use Rattle.radpolicy_common.specs.declared.change_lists.Change.{Change}
 use Rattle.radpolicy_common.specs.declared.change_lists.Change.TheVariants.{Kept}
-use Rattle.radpolicy_common.specs.declared.change_texts.SecretValues.{SecretValues}
+use Rattle.radpolicy_common.specs.Secrets.{Redaction}
 use Rattle.radpolicy_walk_commands.specs.Histories.{IsContinued, IsHistory, IsHistoryText, IsStepTold, entry_at, instances_at, step_told}
 use Rattle.radpolicy_walk_commands.specs.Sessions.{Session, after, entry_of, last_position}
 use Rattle.radpolicy_walk_commands.specs.Showings.{AreChanges, IsListChange, named_lines}
@@ -65,13 +65,13 @@ unfolding kept
 kept_needed [] = refl
 kept_needed (p ∷ ps) = kept_needed ps
 
-module _ (d : Dictionary) (secrets : SecretValues) where
-  no_lines : (pairs : List Pair) → change_text d secrets (map kept pairs) ≡ []
+module _ (r : Redaction) where
+  no_lines : (pairs : List Pair) → change_text r (map kept pairs) ≡ []
   unfolding kept
   no_lines [] = refl
   no_lines (p ∷ ps) = no_lines ps
 
-  pub nothing_told : (name : List ℕ) (before after : List Pair) (text : List ℕ) → before ≡ after → text ≡ [] → IsListChange d secrets name before after text
+  pub nothing_told : (name : List ℕ) (before after : List Pair) (text : List ℕ) → before ≡ after → text ≡ [] → IsListChange r name before after text
   nothing_told name before after text e f = record {
     changes = map kept before;
     change = (kept_before before, kept_after before ∙ e);
@@ -83,11 +83,11 @@ module _ (d : Dictionary) (secrets : SecretValues) where
   }
 
   -- one more step
-  pub one_more_told : (id : AttrId) (trace : List Entry) (k : ℕ) (earlier own text : List ℕ) → IsHistory d secrets id trace k earlier → IsStepTold d secrets id trace (k + 1) own → text ≡ earlier ++ own
-      → IsHistory d secrets id trace (k + 1) text
+  pub one_more_told : (id : AttrId) (trace : List Entry) (k : ℕ) (earlier own text : List ℕ) → IsHistory r id trace k earlier → IsStepTold r id trace (k + 1) own → text ≡ earlier ++ own
+      → IsHistory r id trace (k + 1) text
   one_more_told id trace k earlier own text h s e =
       let next : suc k ≡ k + 1 = omega arith in
-      subst (λ (n : ℕ). IsHistory d secrets id trace n text) next (earlier, own, h, subst (λ (n : ℕ). IsStepTold d secrets id trace n own) (sym next) s, e)
+      subst (λ (n : ℕ). IsHistory r id trace n text) next (earlier, own, h, subst (λ (n : ℕ). IsStepTold r id trace n own) (sym next) s, e)
 
 module _ (d : Dictionary) (list : Name) (id : AttrId) (trace : List Entry) (k : ℕ) (f : Follower) where
   pub left_there : IsFollowing d list id trace (k - 1) f → 0 < k → k < length trace → may_change_by f.edited (entry_at trace k).label ≡ false
@@ -109,32 +109,32 @@ module _ (s m : Session) (trace : List Entry) (place : ℕ) (on : m ≡ after (F
   pub trace_on : m.trace ≡ trace
   trace_on = ap (λ (x : Session). x.trace) on ∙ is_trace
 
-  module _ (d : Dictionary) (is_dictionary : s.dictionary ≡ d) (id : AttrId) where
-    pub dictionary_on : m.dictionary ≡ d
-    dictionary_on = ap (λ (x : Session). x.dictionary) on ∙ is_dictionary
+  module _ (r : Redaction) (is_redaction : s.redaction ≡ r) (id : AttrId) where
+    pub redaction_on : m.redaction ≡ r
+    redaction_on = ap (λ (x : Session). x.redaction) on ∙ is_redaction
 
     -- what is known is known of the place before
-    pub following_before : (f : Followers) → AreFollowing d id trace s.position f → AreFollowing m.dictionary id m.trace (m.position - 1) f
+    pub following_before : (f : Followers) → AreFollowing r.dictionary id trace s.position f → AreFollowing m.redaction.dictionary id m.trace (m.position - 1) f
     following_before f h =
         let before : s.position ≡ m.position - 1 = omega (arith, position_on) in
-        subst (λ (k : ℕ). AreFollowing m.dictionary id m.trace k f) before
-        (subst (λ (es : List Entry). AreFollowing m.dictionary id es s.position f) (sym trace_on) (subst (λ (x : Dictionary). AreFollowing x id trace s.position f) (sym dictionary_on) h))
+        subst (λ (k : ℕ). AreFollowing m.redaction.dictionary id m.trace k f) before
+        (subst (λ (es : List Entry). AreFollowing m.redaction.dictionary id es s.position f) (sym trace_on) (subst (λ (x : Redaction). AreFollowing x.dictionary id trace s.position f) (sym redaction_on) h))
 
-    pub following_after : (f : Followers) → AreFollowing m.dictionary id m.trace m.position f → AreFollowing d id trace m.position f
+    pub following_after : (f : Followers) → AreFollowing m.redaction.dictionary id m.trace m.position f → AreFollowing r.dictionary id trace m.position f
     following_after f h =
-        subst (λ (es : List Entry). AreFollowing d id es m.position f) trace_on (subst (λ (x : Dictionary). AreFollowing x id m.trace m.position f) dictionary_on h)
+        subst (λ (es : List Entry). AreFollowing r.dictionary id es m.position f) trace_on (subst (λ (x : Redaction). AreFollowing x.dictionary id m.trace m.position f) redaction_on h)
 
-    pub told_on : (secrets : SecretValues) (earlier lines text : List ℕ) → IsHistory d secrets id trace s.position earlier
-        → AreChanges m.dictionary secrets (instances_at id m.trace (m.position - 1)) (instances_at id m.trace m.position) lines
+    pub told_on : (earlier lines text : List ℕ) → IsHistory r id trace s.position earlier
+        → AreChanges m.redaction (instances_at id m.trace (m.position - 1)) (instances_at id m.trace m.position) lines
         → text ≡ earlier ++ step_told m.position (last_position m) (step_of (entry_of m)) lines
-        → IsHistory d secrets id trace m.position text
-    told_on secrets earlier lines text h changes e =
+        → IsHistory r id trace m.position text
+    told_on earlier lines text h changes e =
         let own = step_told m.position (last_position m) (step_of (entry_of m)) lines in
-        let here : IsStepTold m.dictionary secrets id m.trace m.position own = record { lines = lines; changes = changes; told = refl } in
-        let there : IsStepTold d secrets id trace m.position own =
-        subst (λ (es : List Entry). IsStepTold d secrets id es m.position own) trace_on (subst (λ (x : Dictionary). IsStepTold x secrets id m.trace m.position own) dictionary_on here) in
-        subst (λ (k : ℕ). IsHistory d secrets id trace k text) (sym position_on)
-        (one_more_told d secrets id trace s.position earlier own text h (subst (λ (k : ℕ). IsStepTold d secrets id trace k own) position_on there) e)
+        let here : IsStepTold m.redaction id m.trace m.position own = record { lines = lines; changes = changes; told = refl } in
+        let there : IsStepTold r id trace m.position own =
+        subst (λ (es : List Entry). IsStepTold r id es m.position own) trace_on (subst (λ (x : Redaction). IsStepTold x id m.trace m.position own) redaction_on here) in
+        subst (λ (k : ℕ). IsHistory r id trace k text) (sym position_on)
+        (one_more_told r id trace s.position earlier own text h (subst (λ (k : ℕ). IsStepTold r id trace k own) position_on there) e)
 
 -- ---- where nothing changed
 
@@ -142,7 +142,7 @@ pub none_there : (octets : List ℕ) → length octets < 1 → octets ≡ []
 none_there [] h = refl
 none_there (octet ∷ octets) h = absurd (omega (arith, h))
 
-pub words_shown : (d : Dictionary) (secrets : SecretValues) (id : AttrId) (trace : List Entry) (k : ℕ) (text named longer : List ℕ) → IsHistory d secrets id trace k text → text ≡ [] → IsContinued text named
-    → longer ≡ named ++ codes " does not change up to here\n" → IsHistoryText d secrets id trace k longer
-words_shown d secrets id trace k text named longer h e more is =
-    ([], subst (IsHistory d secrets id trace k) e h, (more.0, is ∙ ap (λ front. front ++ codes " does not change up to here\n") (more.1 ∙ ap (λ start. start ++ more.0) e)))
+pub words_shown : (r : Redaction) (id : AttrId) (trace : List Entry) (k : ℕ) (text named longer : List ℕ) → IsHistory r id trace k text → text ≡ [] → IsContinued text named
+    → longer ≡ named ++ codes " does not change up to here\n" → IsHistoryText r id trace k longer
+words_shown r id trace k text named longer h e more is =
+    ([], subst (IsHistory r id trace k) e h, (more.0, is ∙ ap (λ front. front ++ codes " does not change up to here\n") (more.1 ∙ ap (λ start. start ++ more.0) e)))

@@ -6,5 +6,6 @@ pub mod OtherIds
 pub mod OwnInstances
 pub mod PolicyLines
 pub mod Positions
+pub mod Redactions
 pub mod TraceSteps
 pub mod UntouchedLists

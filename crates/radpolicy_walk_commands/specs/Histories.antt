@@ -4,9 +4,8 @@ use Rattle.avp_lists.specs.Instances.{instances}
 use Rattle.avp_lists.specs.States.{empty_state}
 use Rattle.avp_lists.specs.declared.lists.State.{State}
 use Rattle.avp_lists.specs.declared.pairs.AttrId.{AttrId}
-use Rattle.avp_dict.specs.Dictionary.{Dictionary}
 use Rattle.avp_step.specs.Trace.{Entry, start}
-use Rattle.radpolicy_common.specs.declared.change_texts.SecretValues.{SecretValues}
+use Rattle.radpolicy_common.specs.Secrets.{Redaction}
 use Rattle.radpolicy_walk_commands.specs.Showings.{AreChanges, step_text}
 use Rattle.radpolicy_walk_commands.specs.Steps.{step_of}
 use Rattle.radpolicy_walk_commands.specs.declared.steps.Step.{Step}
@@ -34,19 +33,19 @@ step_told position last step (octet ∷ octets) =
     step_text position last step ++ codes "\n" ++ octet ∷ octets
 
 -- what is told of the step to a position: the changes from the instances before it to those after it
-pub record IsStepTold (dictionary : Dictionary) (secrets : SecretValues) (id : AttrId)
+pub record IsStepTold (redaction : Redaction) (id : AttrId)
     (trace : List Entry) (k : ℕ) (text : List ℕ) : Type 0 where
   pub lines : List ℕ
-  pub changes : AreChanges dictionary secrets (instances_at id trace (k - 1))
+  pub changes : AreChanges redaction (instances_at id trace (k - 1))
       (instances_at id trace k) lines
   pub told : text ≡ step_told k (length trace - 1) (step_of (entry_at trace k)) lines
 
 -- what is told of each step from the start to a position, in order
-abbrev pub IsHistory : Dictionary → SecretValues → AttrId → List Entry → ℕ → List ℕ → Type 0
-IsHistory dictionary secrets id trace zero text = text ≡ []
-IsHistory dictionary secrets id trace (suc k) text = (earlier : List ℕ) × (own : List ℕ)
-    × IsHistory dictionary secrets id trace k earlier
-    × IsStepTold dictionary secrets id trace (suc k) own × (text ≡ earlier ++ own)
+abbrev pub IsHistory : Redaction → AttrId → List Entry → ℕ → List ℕ → Type 0
+IsHistory redaction id trace zero text = text ≡ []
+IsHistory redaction id trace (suc k) text = (earlier : List ℕ) × (own : List ℕ)
+    × IsHistory redaction id trace k earlier
+    × IsStepTold redaction id trace (suc k) own × (text ≡ earlier ++ own)
 
 -- a history as it is shown: where it is empty, words that say so, after the attribute's name
 abbrev pub IsShownHistory : List ℕ → List ℕ → Type 0
@@ -54,9 +53,9 @@ IsShownHistory [] text = (name : List ℕ) × (text ≡ name ++ codes " does not
 IsShownHistory (octet ∷ octets) text = text ≡ octet ∷ octets
 
 -- what is shown of the history up to a position
-abbrev pub IsHistoryText : Dictionary → SecretValues → AttrId → List Entry → ℕ → List ℕ → Type 0
-IsHistoryText dictionary secrets id trace k text = (own : List ℕ)
-    × IsHistory dictionary secrets id trace k own × IsShownHistory own text
+abbrev pub IsHistoryText : Redaction → AttrId → List Entry → ℕ → List ℕ → Type 0
+IsHistoryText redaction id trace k text = (own : List ℕ)
+    × IsHistory redaction id trace k own × IsShownHistory own text
 
 -- a text with more octets at its end
 abbrev pub IsContinued : List ℕ → List ℕ → Type 0

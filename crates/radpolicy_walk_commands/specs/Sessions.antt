@@ -2,33 +2,33 @@
 use Rattle.std.specs.Prelude.{ℕ, ◌+◌, ◌-◌, min, not, ◌==◌, if◌then◌else◌, List, [], ◌∷◌, ◌++◌, filter, length, map, slice_index_or}
 use Rattle.avp_lists.specs.States.{empty_state}
 use Rattle.avp_lists.specs.declared.lists.State.{State}
-use Rattle.avp_dict.specs.Dictionary.{Dictionary}
 use Rattle.avp_step.specs.Trace.{Entry, start}
 use Rattle.avp_step.specs.Walk.{Walk}
+use Rattle.radpolicy_common.specs.Secrets.{Redaction}
 use Rattle.radpolicy_walk_commands.specs.declared.commands.Command.{Command}
 use Rattle.radpolicy_walk_commands.specs.declared.commands.Command.TheVariants.{Forward, Back, Start, End, Goto, Continue, BackToBreak, UntilFailure, Break, Delete}
 use Rattle.radpolicy_walk_commands.specs.declared.steps.Step.{Step}
 use Rattle.radpolicy_walk_commands.specs.Steps.{is_failure, is_on_one_of, is_one_of, next_where, previous_where, step_of}
 
--- the trace of a run, the position that is shown, and the lines that have a break
+-- what is hidden of a run, its trace, the position that is shown, and the lines that have a break
 pub record Session : Type 0 where
-  pub dictionary : Dictionary
+  pub redaction : Redaction
   pub trace : List Entry
   pub position : ℕ
   pub breaks : List ℕ
 
 -- a run at its start, with no breaks
-abbrev pub session_of : Walk → Session
-session_of walk = record {
-  dictionary = walk.dictionary;
+abbrev pub session_of : Redaction → Walk → Session
+session_of redaction walk = record {
+  redaction = redaction;
   trace = walk.trace;
   position = 0;
   breaks = [];
 }
 
 -- another run at its start, with the breaks of this one
-abbrev pub begun_anew : Walk → Session → Session
-begun_anew walk session = record (session_of walk) { breaks = session.breaks }
+abbrev pub begun_anew : Redaction → Walk → Session → Session
+begun_anew redaction walk session = record (session_of redaction walk) { breaks = session.breaks }
 
 -- what each position did, from the start's
 abbrev pub steps_of : Session → List Step

@@ -8,7 +8,7 @@ use crate::sources::{SourceLines, named_in};
 use crate::steps::{Step, line_of};
 use avp_step::Label;
 use radpolicy::code_text;
-use radpolicy_common::{SecretValues, reason_text};
+use radpolicy_common::reason_text;
 use std::alloc::{AllocError, Global};
 
 // Words, the number of a line, and words.
@@ -82,12 +82,12 @@ fn push_reason(text: &mut Vec<u8>, session: &Session<'_>) -> Result<(), AllocErr
 fn push_named(
     text: &mut Vec<u8>,
     session: &Session<'_>,
-    secrets: SecretValues,
     line: &[u8],
+    shown: &[u8],
 ) -> Result<(), AllocError> {
     let alloc = *text.allocator();
-    for id in named_in(alloc, session.dictionary(), line)? {
-        text.extend_from_slice(&instances_text(alloc, session, secrets, id)?)?;
+    for id in named_in(alloc, session.dictionary(), line, shown)? {
+        text.extend_from_slice(&instances_text(alloc, session, id)?)?;
     }
     Ok(())
 }
@@ -102,21 +102,22 @@ fn reads_attributes(label: Label) -> bool {
 
 /// What the step at the place did, and why: of an update line that failed the reason; of a condition its truth; of a
 /// transaction that was taken back the step that stopped it. Below it are the attributes that the line names, as the
-/// lists had them before the step.
+/// lists had them before the step: the policy's lines are given as they were read, and as they are shown.
 pub fn why_text(
     alloc: Global,
     session: &mut Session<'_>,
     sources: &SourceLines<'_>,
-    secrets: SecretValues,
+    shown: &SourceLines<'_>,
 ) -> Result<Vec<u8>, AllocError> {
     let mut text = Vec::new(alloc);
     push_reason(&mut text, session)?;
     let label = session.step().label;
     if reads_attributes(label)
-        && let Some(line) = line_of(label).and_then(|line| sources.line(line))
+        && let Some(number) = line_of(label)
+        && let (Some(line), Some(shown)) = (sources.line(number), shown.line(number))
     {
         session.make(Command::Back(1))?;
-        push_named(&mut text, session, secrets, line)?;
+        push_named(&mut text, session, line, shown)?;
         session.make(Command::Forward(1))?;
     }
     Ok(text)

@@ -19,7 +19,6 @@ use crate::listings::list_name;
 use crate::sessions::Session;
 use crate::showings::{list_change, push_step};
 use avp_lists::{AttrId, Edit, List, MAX_PAIRS, Op, Pair, Pairs, Selection, SnapshotStore, Store};
-use radpolicy_common::SecretValues;
 use std::alloc::{AllocError, Global};
 
 // Whether the pair alone takes the place of the instances.
@@ -90,7 +89,7 @@ impl Follower {
         list: List,
         id: AttrId,
     ) -> Result<Follower, AllocError>
-        ensures { IfOk result (IsFollowing session.now.dictionary list id session.now.trace
+        ensures { IfOk result (IsFollowing session.now.redaction.dictionary list id session.now.trace
             session.now.position) }
     {
         Ok(Follower {
@@ -110,11 +109,11 @@ impl Follower {
         id: AttrId,
     ) -> Result<Pairs, AllocError>
         requires moved { 0 < session.now.position }
-        requires before { IsFollowing session.now.dictionary list id session.now.trace
+        requires before { IsFollowing session.now.redaction.dictionary list id session.now.trace
             (session.now.position - 1) self.now }
         ensures instances { IfOk result (λ found. found
             ≡ instances id (list_of list (lists_of session.now))) }
-        ensures fits { IfOk result (λ found. AllFit session.now.dictionary found) }
+        ensures fits { IfOk result (λ found. AllFit session.now.redaction.dictionary found) }
     {
         // `position` ensures that the place is one of the trace's, which the proof needs.
         let _within = session.position();
@@ -133,19 +132,18 @@ impl Follower {
         &mut self,
         alloc: Global,
         session: &Session<'_>,
-        secrets: SecretValues,
         list: List,
         id: AttrId,
     ) -> Result<Vec<u8>, AllocError>
         requires moved { 0 < session.now.position }
-        requires before { IsFollowing session.now.dictionary list id session.now.trace
+        requires before { IsFollowing session.now.redaction.dictionary list id session.now.trace
             (session.now.position - 1) self.old }
-        ensures lines { IfOk result (λ lines. IsListChange session.now.dictionary secrets
+        ensures lines { IfOk result (λ lines. IsListChange session.now.redaction
             (list_name list)
             (instances id (list_of list
             (entry_at session.now.trace (session.now.position - 1)).outcome.state))
             (instances id (list_of list (entry_of session.now).outcome.state)) lines.items) }
-        ensures after { OnOk result (IsFollowing session.now.dictionary list id session.now.trace
+        ensures after { OnOk result (IsFollowing session.now.redaction.dictionary list id session.now.trace
             session.now.position self.new) }
     {
         // `position` ensures that the place is one of the trace's, which the proof needs.
@@ -156,8 +154,7 @@ impl Follower {
         let found = self.instances_after(alloc, session, list, id)?;
         let lines = list_change(
             alloc,
-            session.dictionary(),
-            secrets,
+            session.redaction(),
             list_name(list),
             self.instances.as_slice(),
             found.as_slice(),
@@ -177,7 +174,7 @@ pub(crate) struct Followers {
 
 impl Followers {
     fn new(alloc: Global, session: &Session<'_>, id: AttrId) -> Result<Followers, AllocError>
-        ensures { IfOk result (AreFollowing session.now.dictionary id session.now.trace
+        ensures { IfOk result (AreFollowing session.now.redaction.dictionary id session.now.trace
             session.now.position) }
     {
         Ok(Followers {
@@ -191,25 +188,20 @@ impl Followers {
         &mut self,
         alloc: Global,
         session: &Session<'_>,
-        secrets: SecretValues,
         id: AttrId,
     ) -> Result<Vec<u8>, AllocError>
         requires moved { 0 < session.now.position }
-        requires before { AreFollowing session.now.dictionary id session.now.trace
+        requires before { AreFollowing session.now.redaction.dictionary id session.now.trace
             (session.now.position - 1) self.old }
-        ensures lines { IfOk result (λ lines. AreChanges session.now.dictionary secrets
+        ensures lines { IfOk result (λ lines. AreChanges session.now.redaction
             (instances_at id session.now.trace (session.now.position - 1))
             (instances_at id session.now.trace session.now.position) lines.items) }
-        ensures after { OnOk result (AreFollowing session.now.dictionary id session.now.trace
+        ensures after { OnOk result (AreFollowing session.now.redaction.dictionary id session.now.trace
             session.now.position self.new) }
     {
-        let mut lines = self
-            .request
-            .follow(alloc, session, secrets, List::Request, id)?;
-        let reply = self.reply.follow(alloc, session, secrets, List::Reply, id)?;
-        let control = self
-            .control
-            .follow(alloc, session, secrets, List::Control, id)?;
+        let mut lines = self.request.follow(alloc, session, List::Request, id)?;
+        let reply = self.reply.follow(alloc, session, List::Reply, id)?;
+        let control = self.control.follow(alloc, session, List::Control, id)?;
         lines.extend_from_slice(&reply)?;
         lines.extend_from_slice(&control)?;
         Ok(lines)
@@ -239,13 +231,8 @@ fn push_told(text: &mut Vec<u8>, session: &Session<'_>, lines: &[u8]) -> Result<
 
 /// What the steps from the start to the place changed in the instances of an attribute: each of those that changed
 /// something, and below it, of each list that it changed, the lines with `-` and `+`.
-pub fn history(
-    alloc: Global,
-    session: &mut Session<'_>,
-    secrets: SecretValues,
-    id: AttrId,
-) -> Result<Vec<u8>, AllocError>
-    ensures told { IfOk result (λ text. IsHistory session.old.dictionary secrets id
+pub fn history(alloc: Global, session: &mut Session<'_>, id: AttrId) -> Result<Vec<u8>, AllocError>
+    ensures told { IfOk result (λ text. IsHistory session.old.redaction id
         session.old.trace session.old.position text.items) }
     ensures stays { OnOk result (session.new ≡ session.old) }
 {
@@ -255,7 +242,7 @@ pub fn history(
     let mut text = Vec::new(alloc);
     'steps: while session.position() < place {
         session.make(Command::Forward(1))?;
-        let lines = followers.follow(alloc, session, secrets, id)?;
+        let lines = followers.follow(alloc, session, id)?;
         push_told(&mut text, session, &lines)?;
     }
     Ok(text)
@@ -265,14 +252,13 @@ pub fn history(
 pub fn history_text(
     alloc: Global,
     session: &mut Session<'_>,
-    secrets: SecretValues,
     id: AttrId,
 ) -> Result<Vec<u8>, AllocError>
-    ensures told { IfOk result (λ text. IsHistoryText session.old.dictionary secrets id
+    ensures told { IfOk result (λ text. IsHistoryText session.old.redaction id
         session.old.trace session.old.position text.items) }
     ensures stays { OnOk result (session.new ≡ session.old) }
 {
-    let mut text = history(alloc, session, secrets, id)?;
+    let mut text = history(alloc, session, id)?;
     match text.as_slice() {
         [] => {
             push_name(&mut text, session.dictionary(), id)?;

@@ -12,7 +12,7 @@ use crate::sessions::Session;
 use crate::showings::list_text;
 use avp_dict::Dictionary;
 use avp_lists::{AttrId, List, Pair, Pairs, State, Store, copy_pair};
-use radpolicy_common::SecretValues;
+use radpolicy_common::Redaction;
 use std::alloc::{AllocError, Global};
 
 // Adds a copy of a pair, if it is an instance.
@@ -77,16 +77,15 @@ pub(crate) fn push_name(
 // The instances in a list, under its name.
 fn push_instances(
     text: &mut Vec<u8>,
-    dictionary: &Dictionary,
-    secrets: SecretValues,
+    redaction: &Redaction<'_>,
     name: &str,
     instances: &[Pair],
 ) -> Result<(), AllocError>
-    requires { AllFit dictionary.now instances.now }
+    requires { AllFit redaction.now.dictionary instances.now }
 {
     if !instances.is_empty() {
         let alloc = *text.allocator();
-        let lines = list_text(alloc, dictionary, secrets, name, instances)?;
+        let lines = list_text(alloc, redaction, name, instances)?;
         text.extend_from_slice(&lines)?;
     }
     Ok(())
@@ -95,34 +94,15 @@ fn push_instances(
 // The lists that are not empty, each under its name.
 fn filled_lists_text(
     alloc: Global,
-    dictionary: &Dictionary,
-    secrets: SecretValues,
+    redaction: &Redaction<'_>,
     lists: &State,
 ) -> Result<Vec<u8>, AllocError>
-    requires { StateFits dictionary.now lists.now }
+    requires { StateFits redaction.now.dictionary lists.now }
 {
     let mut text = Vec::new(alloc);
-    push_instances(
-        &mut text,
-        dictionary,
-        secrets,
-        "request",
-        lists.request.as_slice(),
-    )?;
-    push_instances(
-        &mut text,
-        dictionary,
-        secrets,
-        "reply",
-        lists.reply.as_slice(),
-    )?;
-    push_instances(
-        &mut text,
-        dictionary,
-        secrets,
-        "control",
-        lists.control.as_slice(),
-    )?;
+    push_instances(&mut text, redaction, "request", lists.request.as_slice())?;
+    push_instances(&mut text, redaction, "reply", lists.reply.as_slice())?;
+    push_instances(&mut text, redaction, "control", lists.control.as_slice())?;
     Ok(text)
 }
 
@@ -130,15 +110,13 @@ fn filled_lists_text(
 pub fn instances_text(
     alloc: Global,
     session: &Session<'_>,
-    secrets: SecretValues,
     id: AttrId,
 ) -> Result<Vec<u8>, AllocError> {
-    let dictionary = session.dictionary();
     let found = session.instances(alloc, id)?;
-    let mut text = filled_lists_text(alloc, dictionary, secrets, &found)?;
+    let mut text = filled_lists_text(alloc, session.redaction(), &found)?;
     if text.is_empty() {
         text.extend_from_slice(b"no ")?;
-        push_name(&mut text, dictionary, id)?;
+        push_name(&mut text, session.dictionary(), id)?;
         text.extend_from_slice(b"\n")?;
     }
     Ok(text)

@@ -9,9 +9,8 @@ use crate::sessions::Session;
 use crate::showings::{list_text, push_number, push_step};
 use crate::sources::SourceLines;
 use crate::steps::line_of;
-use avp_dict::Dictionary;
 use avp_lists::{List, State};
-use radpolicy_common::SecretValues;
+use radpolicy_common::Redaction;
 use std::alloc::{AllocError, Global};
 
 // How many lines of the policy are shown before and after one.
@@ -34,28 +33,15 @@ pub(crate) fn list_name(list: List) -> &'static str
 // All three lists, each under its name.
 fn all_lists_text(
     alloc: Global,
-    dictionary: &Dictionary,
-    secrets: SecretValues,
+    redaction: &Redaction<'_>,
     lists: &State,
 ) -> Result<Vec<u8>, AllocError>
-    requires { StateFits dictionary.now lists.now }
-    ensures { IfOk result (λ text. text.items ≡ lists_text dictionary.now secrets None lists.now) }
+    requires { StateFits redaction.now.dictionary lists.now }
+    ensures { IfOk result (λ text. text.items ≡ lists_text redaction.now None lists.now) }
 {
-    let mut text = list_text(
-        alloc,
-        dictionary,
-        secrets,
-        "request",
-        lists.request.as_slice(),
-    )?;
-    let reply = list_text(alloc, dictionary, secrets, "reply", lists.reply.as_slice())?;
-    let control = list_text(
-        alloc,
-        dictionary,
-        secrets,
-        "control",
-        lists.control.as_slice(),
-    )?;
+    let mut text = list_text(alloc, redaction, "request", lists.request.as_slice())?;
+    let reply = list_text(alloc, redaction, "reply", lists.reply.as_slice())?;
+    let control = list_text(alloc, redaction, "control", lists.control.as_slice())?;
     text.extend_from_slice(&reply)?;
     text.extend_from_slice(&control)?;
     Ok(text)
@@ -65,23 +51,16 @@ fn all_lists_text(
 pub fn lists_text(
     alloc: Global,
     session: &Session<'_>,
-    secrets: SecretValues,
     which: Option<List>,
 ) -> Result<Vec<u8>, AllocError>
     ensures { IfOk result (λ text. text.items
-        ≡ lists_text session.now.dictionary secrets which (lists_of session.now)) }
+        ≡ lists_text session.now.redaction which (lists_of session.now)) }
 {
-    let dictionary = session.dictionary();
+    let redaction = session.redaction();
     let lists = session.lists()?;
     match which {
-        Some(list) => list_text(
-            alloc,
-            dictionary,
-            secrets,
-            list_name(list),
-            lists.list(list),
-        ),
-        None => all_lists_text(alloc, dictionary, secrets, &lists),
+        Some(list) => list_text(alloc, redaction, list_name(list), lists.list(list)),
+        None => all_lists_text(alloc, redaction, &lists),
     }
 }
 

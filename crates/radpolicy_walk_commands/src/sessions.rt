@@ -8,6 +8,7 @@ ghost use Rattle.avp_step.specs.Walk.{walk_from};
 ghost use Rattle.avp_unlang.specs.Resolutions.{StateFits};
 ghost use Rattle.radpolicy.specs.Starts.{entry_of as lists_of_start};
 ghost use Rattle.radpolicy_common.specs.ChangeTexts.{AllFit};
+ghost use Rattle.radpolicy_common.specs.Secrets.{IsRedactionOf};
 ghost use Rattle.radpolicy_walk_commands.specs.Histories.{instances_of};
 ghost use Rattle.radpolicy_walk_commands.specs.Sessions.{after, after_all, begun_anew, breaks_after, entry_of, last_position, lists_of, position_after, session_of, steps_of, with_break, without_break};
 ghost use Rattle.radpolicy_walk_commands.specs.Showings.{AreChanges, step_text};
@@ -25,14 +26,14 @@ use avp_lists::{AttrId, List, Pairs, SlotStore, State, Store};
 use avp_step::Stepper;
 use avp_unlang::Policy;
 use radpolicy::Start;
-use radpolicy_common::SecretValues;
+use radpolicy_common::{Hiding, Redaction};
 use std::alloc::{AllocError, Global};
 use std::marker::Model;
 
 /// A run of a policy that was made to its end, a position in it, and the lines with breaks.
 #[derive(Drop)]
 pub struct Session<'a> {
-    dictionary: &'a Dictionary,
+    redaction: Redaction<'a>,
     policy: &'a Policy,
     stepper: Stepper<'a, SlotStore>,
     // The step of each position.
@@ -49,15 +50,15 @@ impl<'a> Model for Session<'a> {
     ghost Value = { Shown };
 
     ghost view = { λ s. record {
-      dictionary = s.dictionary.now;
+      redaction = s.redaction;
       trace = s.stepper.trace;
       position = s.stepper.position;
       breaks = s.breaks.items;
     } };
 
-    ghost invariant = { λ s. (s.stepper.dictionary ≡ s.dictionary.now)
+    ghost invariant = { λ s. (s.stepper.dictionary ≡ s.redaction.dictionary)
         × (s.steps.items ≡ map step_of s.stepper.trace)
-        × IsRunOf s.dictionary.now s.policy.now s.stepper.trace };
+        × IsRunOf s.redaction.dictionary s.policy.now s.stepper.trace };
 }
 
 fn without_break(alloc: Global, breaks: &[usize], line: usize) -> Result<Vec<usize>, AllocError>
@@ -109,17 +110,26 @@ pub(crate) fn present_lists(store: &SlotStore) -> Result<State, AllocError>
 
 impl<'a> Session<'a> {
     /// A session over the run from a start, at its start and with no breaks. The run is made to its end.
-    pub fn new(alloc: Global, start: Start<'a>) -> Result<Session<'a>, AllocError>
-        ensures { IfOk result (λ session. session ≡ session_of
+    #[tactic(auto, using(crate::proofs::Redactions::redacts))]
+    pub fn new(
+        alloc: Global,
+        start: Start<'a>,
+        hiding: Hiding<'_>,
+    ) -> Result<Session<'a>, AllocError>
+        ensures begun { IfOk result (λ session. session ≡ session_of session.redaction
             (walk_from start.entry.prepared.dictionary start.entry.prepared.statements
             (lists_of_start start.entry))) }
+        ensures hidden { IfOk result (λ session.
+            IsRedactionOf start.entry.prepared.dictionary start.entry.prepared.statements hiding.entry
+            session.redaction) }
     {
         let (dictionary, policy) = (start.dictionary(), start.policy());
+        let redaction = Redaction::new(alloc, dictionary, hiding, &[policy])?;
         let mut stepper = start.stepper(alloc)?;
         let steps = steps_to_end(alloc, &mut stepper)?;
         stepper.to_start();
         Ok(Session {
-            dictionary,
+            redaction,
             policy,
             stepper,
             steps,
@@ -128,31 +138,46 @@ impl<'a> Session<'a> {
     }
 
     /// A session over another run, at its start; the breaks stay. Where memory is short nothing changes.
-    pub fn begin_anew(&mut self, alloc: Global, start: Start<'a>) -> Result<(), AllocError>
-        ensures begun { OnOk result (self.new ≡ begun_anew
+    pub fn begin_anew(
+        &mut self,
+        alloc: Global,
+        start: Start<'a>,
+        hiding: Hiding<'_>,
+    ) -> Result<(), AllocError>
+        ensures begun { OnOk result (self.new ≡ begun_anew self.new.redaction
             (walk_from start.entry.prepared.dictionary start.entry.prepared.statements
             (lists_of_start start.entry)) self.old) }
+        ensures hidden { OnOk result
+            (IsRedactionOf start.entry.prepared.dictionary start.entry.prepared.statements hiding.entry
+            self.new.redaction) }
         ensures unchanged { OnErr result (self.new ≡ self.old) }
     {
         let Session {
-            dictionary,
+            redaction,
             policy,
             stepper,
             steps,
             breaks: _,
-        } = Session::new(alloc, start)?;
-        self.dictionary = dictionary;
+        } = Session::new(alloc, start, hiding)?;
+        self.redaction = redaction;
         self.policy = policy;
         self.stepper = stepper;
         self.steps = steps;
         Ok(())
     }
 
+    /// What is hidden of the run.
+    pub fn redaction(&self) -> &Redaction<'a>
+        ensures { result.now ≡ self.now.redaction }
+    {
+        &self.redaction
+    }
+
     /// The dictionary of the policy.
     pub fn dictionary(&self) -> &Dictionary
-        ensures { result.now ≡ self.now.dictionary }
+        ensures { result.now ≡ self.now.redaction.dictionary }
     {
-        self.dictionary
+        self.redaction.dictionary()
     }
 
     /// The number of steps before the place.
@@ -197,7 +222,7 @@ impl<'a> Session<'a> {
     /// Copies of the lists at the place.
     pub fn lists(&self) -> Result<State, AllocError>
         ensures lists { IfOk result (λ lists. lists ≡ lists_of self.now) }
-        ensures fits { IfOk result (λ lists. StateFits self.now.dictionary lists) }
+        ensures fits { IfOk result (λ lists. StateFits self.now.redaction.dictionary lists) }
     {
         present_lists(self.stepper.store())
     }
@@ -206,7 +231,7 @@ impl<'a> Session<'a> {
     #[tactic(auto, using(crate::proofs::FittingInstances::instances_fit))]
     pub(crate) fn instances(&self, alloc: Global, id: AttrId) -> Result<State, AllocError>
         ensures instances { IfOk result (λ found. found ≡ instances_of id (lists_of self.now)) }
-        ensures fits { IfOk result (λ found. StateFits self.now.dictionary found) }
+        ensures fits { IfOk result (λ found. StateFits self.now.redaction.dictionary found) }
     {
         let found = instances_of(alloc, id, self.stepper.store())?;
         Ok(found)
@@ -222,7 +247,7 @@ impl<'a> Session<'a> {
     ) -> Result<Pairs, AllocError>
         ensures instances { IfOk result (λ found. found
             ≡ instances id (list_of list (lists_of self.now))) }
-        ensures fits { IfOk result (λ found. AllFit self.now.dictionary found) }
+        ensures fits { IfOk result (λ found. AllFit self.now.redaction.dictionary found) }
     {
         let found = instances(alloc, id, self.stepper.store(), list)?;
         Ok(found)
@@ -230,7 +255,7 @@ impl<'a> Session<'a> {
 
     /// That the lists at the place fit the dictionary, for a proof that needs it.
     pub(crate) fn lists_fit(&self)
-        ensures { StateFits self.now.dictionary (lists_of self.now) }
+        ensures { StateFits self.now.redaction.dictionary (lists_of self.now) }
     {
         let _store = self.stepper.store();
     }
@@ -294,20 +319,15 @@ impl<'a> Session<'a> {
 
     /// Makes a command, and gives the lines of what it changed in the lists: of each list that changed its name, and
     /// then `- Name = value` for what is gone and `+ Name = value` for what came.
-    pub fn change(
-        &mut self,
-        alloc: Global,
-        command: Command,
-        secrets: SecretValues,
-    ) -> Result<Vec<u8>, AllocError>
+    pub fn change(&mut self, alloc: Global, command: Command) -> Result<Vec<u8>, AllocError>
         ensures after { OnOk result (self.new ≡ after command self.old) }
-        ensures changes { IfOk result (λ text. AreChanges self.old.dictionary secrets
-            (lists_of self.old) (lists_of (after command self.old)) text.items) }
+        ensures changes { IfOk result (λ text. AreChanges self.old.redaction (lists_of self.old)
+            (lists_of (after command self.old)) text.items) }
     {
         let before = self.lists()?;
         self.make(command)?;
         let after = self.lists()?;
-        change_text(alloc, self.dictionary, secrets, &before, &after)
+        change_text(alloc, &self.redaction, &before, &after)
     }
 
     /// The place: `[3 of 17] line 8 ok`.

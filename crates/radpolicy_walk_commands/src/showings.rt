@@ -3,14 +3,13 @@
 ghost use Rattle.std.specs.Prelude.{◌≡◌, ◌++◌, IfOk, OnOk, codes, decimal};
 ghost use Rattle.avp_unlang.specs.Resolutions.{StateFits};
 ghost use Rattle.radpolicy_common.specs.ChangeTexts.{AllFit, Fits};
-ghost use Rattle.radpolicy_walk_commands.specs.Showings.{AreChanges, IsListChange, list_text, named_lines, pair_line, step_text};
+ghost use Rattle.radpolicy_walk_commands.specs.Showings.{AreChanges, IsListChange, list_line, list_text, named_lines, step_text};
 
 use crate::steps::Step;
-use avp_dict::Dictionary;
 use avp_lists::{Pair, State};
 use itoa::Buffer;
 use radpolicy::{code_text, push_label};
-use radpolicy_common::{SecretValues, change_lines, changes, pair_text};
+use radpolicy_common::{Redaction, change_lines, changes, pair_line};
 use std::alloc::{AllocError, Global};
 
 /// Appends a number in decimal digits.
@@ -42,40 +41,32 @@ pub(crate) fn push_step(
     Ok(())
 }
 
-fn push_pair(
-    text: &mut Vec<u8>,
-    dictionary: &Dictionary,
-    secrets: SecretValues,
-    pair: &Pair,
-) -> Result<(), AllocError>
-    requires { Fits dictionary.now pair.now }
-    ensures { OnOk result
-        (text.new.items ≡ text.old.items ++ pair_line dictionary.now secrets pair.now) }
+fn push_pair(text: &mut Vec<u8>, redaction: &Redaction<'_>, pair: &Pair) -> Result<(), AllocError>
+    requires { Fits redaction.now.dictionary pair.now }
+    ensures { OnOk result (text.new.items ≡ text.old.items ++ list_line redaction.now pair.now) }
 {
-    let alloc = *text.allocator();
-    let pair = pair_text(alloc, dictionary, secrets, pair)?;
+    let line = pair_line(*text.allocator(), redaction, pair)?;
     text.extend_from_slice(b"  ")?;
-    text.extend_from_slice(pair.as_slice())?;
+    text.extend_from_slice(&line)?;
     Ok(())
 }
 
 /// A list under its name, a line for each pair: `  Name = value`.
 pub fn list_text(
     alloc: Global,
-    dictionary: &Dictionary,
-    secrets: SecretValues,
+    redaction: &Redaction<'_>,
     name: &str,
     pairs: &[Pair],
 ) -> Result<Vec<u8>, AllocError>
-    requires { AllFit dictionary.now pairs.now }
+    requires { AllFit redaction.now.dictionary pairs.now }
     ensures { IfOk result (λ text. text.items
-        ≡ list_text dictionary.now secrets name.now pairs.now) }
+        ≡ list_text redaction.now name.now pairs.now) }
 {
     let mut text = Vec::new(alloc);
     text.extend_from_slice(name.as_bytes())?;
     text.extend_from_slice(b"\n")?;
     for pair in pairs {
-        push_pair(&mut text, dictionary, secrets, pair)?;
+        push_pair(&mut text, redaction, pair)?;
     }
     Ok(text)
 }
@@ -100,19 +91,18 @@ fn named_lines(alloc: Global, name: &str, lines: &[u8]) -> Result<Vec<u8>, Alloc
 /// The lines of what changed from one list to another.
 pub(crate) fn list_change(
     alloc: Global,
-    dictionary: &Dictionary,
-    secrets: SecretValues,
+    redaction: &Redaction<'_>,
     name: &str,
     before: &[Pair],
     after: &[Pair],
 ) -> Result<Vec<u8>, AllocError>
-    requires before { AllFit dictionary.now before.now }
-    requires after { AllFit dictionary.now after.now }
+    requires before { AllFit redaction.now.dictionary before.now }
+    requires after { AllFit redaction.now.dictionary after.now }
     ensures { IfOk result (λ text.
-        IsListChange dictionary.now secrets name.now before.now after.now text.items) }
+        IsListChange redaction.now name.now before.now after.now text.items) }
 {
     let changes = changes(alloc, before, after)?;
-    let lines = change_lines(alloc, dictionary, &changes, secrets)?;
+    let lines = change_lines(alloc, redaction, &changes)?;
     named_lines(alloc, name, &lines)
 }
 
@@ -120,22 +110,21 @@ pub(crate) fn list_change(
 /// what is gone and `+ Name = value` for what came.
 pub fn change_text(
     alloc: Global,
-    dictionary: &Dictionary,
-    secrets: SecretValues,
+    redaction: &Redaction<'_>,
     before: &State,
     after: &State,
 ) -> Result<Vec<u8>, AllocError>
-    requires before { StateFits dictionary.now before.now }
-    requires after { StateFits dictionary.now after.now }
+    requires before { StateFits redaction.now.dictionary before.now }
+    requires after { StateFits redaction.now.dictionary after.now }
     ensures { IfOk result (λ text.
-        AreChanges dictionary.now secrets before.now after.now text.items) }
+        AreChanges redaction.now before.now after.now text.items) }
 {
     let (old, new) = (before.request.as_slice(), after.request.as_slice());
-    let mut text = list_change(alloc, dictionary, secrets, "request", old, new)?;
+    let mut text = list_change(alloc, redaction, "request", old, new)?;
     let (old, new) = (before.reply.as_slice(), after.reply.as_slice());
-    let reply = list_change(alloc, dictionary, secrets, "reply", old, new)?;
+    let reply = list_change(alloc, redaction, "reply", old, new)?;
     let (old, new) = (before.control.as_slice(), after.control.as_slice());
-    let control = list_change(alloc, dictionary, secrets, "control", old, new)?;
+    let control = list_change(alloc, redaction, "control", old, new)?;
     text.extend_from_slice(&reply)?;
     text.extend_from_slice(&control)?;
     Ok(text)

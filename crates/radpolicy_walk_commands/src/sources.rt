@@ -28,14 +28,13 @@ fn next_name(text: &[u8]) -> Option<(&[u8], &[u8])>
     }
 }
 
-/// The attributes that a line of the policy names, each once.
-pub(crate) fn named_in(
-    alloc: Global,
+// Adds the attributes that octets name.
+fn add_named(
+    ids: &mut Vec<AttrId>,
     dictionary: &Dictionary,
-    line: &[u8],
-) -> Result<Vec<AttrId>, AllocError> {
-    let mut ids = Vec::new(alloc);
-    let mut rest = line;
+    octets: &[u8],
+) -> Result<(), AllocError> {
+    let mut rest = octets;
     while let Some((name, after)) = next_name(rest) {
         if let Some(named) = dictionary.by_name(name)
             && !ids.contains(&named.id)
@@ -43,6 +42,30 @@ pub(crate) fn named_in(
             ids.push(named.id)?;
         }
         rest = after;
+    }
+    Ok(())
+}
+
+// What is between the braces of an expansion, of what follows a `%`.
+fn expanded(octets: &[u8]) -> &[u8] {
+    match octets {
+        [b'{', text @ ..] => text.split(|octet| *octet == b'}').next().unwrap_or(&[]),
+        _ => &[],
+    }
+}
+
+/// The attributes that a line of the policy names, each once: in what is shown of it, or in an expansion. A name that is
+/// hidden otherwise may be a secret value.
+pub(crate) fn named_in(
+    alloc: Global,
+    dictionary: &Dictionary,
+    line: &[u8],
+    shown: &[u8],
+) -> Result<Vec<AttrId>, AllocError> {
+    let mut ids = Vec::new(alloc);
+    add_named(&mut ids, dictionary, shown)?;
+    for part in line.split(|octet| *octet == b'%').skip(1) {
+        add_named(&mut ids, dictionary, expanded(part))?;
     }
     Ok(ids)
 }

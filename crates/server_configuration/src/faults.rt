@@ -40,6 +40,9 @@ pub enum FaultKind {
     /// What this line includes is missing, or cannot be read.
     #[error("not there, or not readable")]
     Unreadable,
+    /// What this line includes is a pipe or a device.
+    #[error("neither a file nor a folder")]
+    NotRegular,
     /// Whoever runs the program has no permission to read what this line includes.
     #[error("no permission to read it: run this with sudo, or as a member of the group that owns it")]
     Forbidden,

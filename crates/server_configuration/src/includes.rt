@@ -124,6 +124,7 @@ fn kind_of(unread: Unread) -> FaultKind {
         Unread::Memory => FaultKind::Memory,
         Unread::Missing | Unread::Unreadable => FaultKind::Unreadable,
         Unread::Forbidden => FaultKind::Forbidden,
+        Unread::NotRegular => FaultKind::NotRegular,
         Unread::TooLong => FaultKind::TooLong,
     }
 }

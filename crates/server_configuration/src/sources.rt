@@ -1,7 +1,7 @@
 //! Where a configuration's files come from.
 
 use std::alloc::{AllocError, Global};
-use std::fs::File;
+use std::fs::{File, Metadata};
 use std::io::{ErrorKind, Read};
 use std::{fs, io};
 
@@ -22,6 +22,8 @@ pub enum Unread {
     Missing,
     /// Whoever runs the program has no permission to read it, or to look into a folder on the way to it.
     Forbidden,
+    /// It is neither a file nor a folder, and the command line doesn't name it.
+    NotRegular,
     /// It cannot be read for another reason.
     Unreadable,
     /// It has more octets than were asked for.
@@ -46,15 +48,37 @@ pub trait Files {
     fn is_folder(&self, path: &[u8]) -> bool;
 }
 
-/// The files of the system.
+/// The files of the system. What is no regular file, as a pipe, is read only at a path that the command line names: one
+/// that is included would be waited for.
 #[derive(Clone, Copy)]
 pub struct SystemFiles<'a> {
     runtime: &'a HostRuntime,
+    named: &'a [&'a str],
 }
 
 impl<'a> SystemFiles<'a> {
-    pub fn new(runtime: &'a HostRuntime) -> SystemFiles<'a> {
-        SystemFiles { runtime }
+    pub fn new(runtime: &'a HostRuntime, named: &'a [&'a str]) -> SystemFiles<'a> {
+        SystemFiles { runtime, named }
+    }
+
+    // Whether what is at a path may be read, whatever it is.
+    fn is_named(&self, path: &str) -> bool {
+        self.named.iter().any(|named| *named == path)
+    }
+
+    // What is no regular file is not even opened, which could wait; should it come meanwhile, it is not read.
+    fn open(&self, path: &str) -> Result<File, Unread> {
+        if self.is_named(path) {
+            return File::open(self.runtime, path).map_err(|error| unread_of(&error));
+        }
+        regular(fs::metadata(self.runtime, path))?;
+        match File::open(self.runtime, path) {
+            Ok(file) => match regular(file.metadata()) {
+                Ok(()) => Ok(file),
+                Err(unread) => Err(unread),
+            },
+            Err(error) => Err(unread_of(&error)),
+        }
     }
 }
 
@@ -67,10 +91,19 @@ fn unread_of(error: &io::Error) -> Unread {
     }
 }
 
+// Refuses what is no regular file.
+fn regular(found: io::Result<Metadata>) -> Result<(), Unread> {
+    match found {
+        Ok(metadata) if metadata.is_file() => Ok(()),
+        Ok(metadata) if metadata.is_dir() => Err(Unread::Unreadable),
+        Ok(_) => Err(Unread::NotRegular),
+        Err(error) => Err(unread_of(&error)),
+    }
+}
+
 // At most one octet more than the limit.
-fn read_path(rt: &HostRuntime, path: &str, limit: usize) -> io::Result<Vec<u8>> {
-    let file = File::open(rt, path)?;
-    let mut octets = Vec::new(rt.alloc());
+fn read_open(alloc: Global, file: File, limit: usize) -> io::Result<Vec<u8>> {
+    let mut octets = Vec::new(alloc);
     file.take((limit as u64).saturating_add(1))
         .read_to_end(&mut octets)?;
     Ok(octets)
@@ -92,11 +125,11 @@ fn read_names(rt: &HostRuntime, folder: &str) -> io::Result<Vec<Vec<u8>>> {
 }
 
 impl Files for SystemFiles<'_> {
-    fn octets(&self, _alloc: Global, path: &[u8], limit: usize) -> Result<Vec<u8>, Unread> {
+    fn octets(&self, alloc: Global, path: &[u8], limit: usize) -> Result<Vec<u8>, Unread> {
         let Ok(path) = str::from_utf8(path) else {
             return Err(Unread::Missing);
         };
-        match read_path(self.runtime, path, limit) {
+        match read_open(alloc, self.open(path)?, limit) {
             Ok(octets) if octets.len() > limit => Err(Unread::TooLong),
             Ok(octets) => Ok(octets),
             Err(error) => Err(unread_of(&error)),

@@ -10,7 +10,7 @@ use std::marker::Model;
 
 /// A run of octets of the text, seen by contracts as their list.
 #[derive(Drop)]
-pub(crate) struct Excerpt<'a> {
+pub struct Excerpt<'a> {
     octets: &'a [u8],
 }
 
@@ -24,7 +24,7 @@ impl<'a> Model for Excerpt<'a> {
 
 /// An operator or a bracket.
 #[derive(Clone, Copy, PartialEq, Eq)]
-pub(crate) enum Sign {
+pub enum Sign {
     /// `{`
     BlockStart,
     /// `}`
@@ -69,7 +69,7 @@ pub(crate) enum Sign {
 
 /// A comparison with a pattern.
 #[derive(Drop)]
-pub(crate) struct Matcher<'a> {
+pub struct Matcher<'a> {
     /// The octets between the slashes, as they are in the text.
     pub pattern: Excerpt<'a>,
     /// Whether its sign is `!~` and not `=~`.
@@ -79,7 +79,7 @@ pub(crate) struct Matcher<'a> {
 
 /// What a text begins with, after blanks and comments.
 #[derive(Drop)]
-pub(crate) enum Token<'a> {
+pub enum Token<'a> {
     Operator(Sign),
     Word(Excerpt<'a>),
     /// The octets between the quotes, as they are in the text.
@@ -107,7 +107,8 @@ impl<'a> Excerpt<'a> {
         }
     }
 
-    pub(crate) fn as_slice(&self) -> &'a [u8]
+    /// The octets.
+    pub fn as_slice(&self) -> &'a [u8]
         ensures { result.now ≡ self.now }
     {
         self.octets

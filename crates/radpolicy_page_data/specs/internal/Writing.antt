@@ -5,7 +5,7 @@ use Rattle.avp_step.specs.Trace.{Entry}
 use Rattle.radpolicy_common.specs.ChangeTexts.{AllFit}
 use Rattle.radpolicy_page_data.specs.Differences.{lists_before}
 use Rattle.radpolicy_page_data.specs.Positions.{ArePositions}
-use Rattle.radpolicy_page_data.specs.Secrets.{Redaction}
+use Rattle.radpolicy_common.specs.Secrets.{Redaction}
 use Rattle.radpolicy_page_data.specs.declared.differences.Difference.{Difference}
 use Rattle.radpolicy_page_data.specs.declared.differences.Difference.TheVariants.{Again, Spliced}
 use Rattle.radpolicy_page_data.specs.declared.positions.Written.{Written}

@@ -13,7 +13,7 @@ follow-requires-clause-before c =
     let length_same : length first.trace ≡ length c.args.session.now.trace = ap length same in
     let within : c.position-place.result < length first.trace = omega (arith, length_same, c.position-place.ensures.position, c.position-place.ensures.within) in
     let early : here.position < c.position-place.result = omega (arith, c.steps-test.true, c.position.ensures.position) in
-    following_before here c.make-in-steps.new.self first.trace c.position-place.result c.in_ok-make-2.ensures c.steps.invariant.trace early within first.dictionary c.steps.invariant.dictionary c.args.id
+    following_before here c.make-in-steps.new.self first.trace c.position-place.result c.in_ok-make-2.ensures c.steps.invariant.trace early within first.redaction c.steps.invariant.redaction c.args.id
     c.steps.followers c.steps.invariant.following
 
 pub steps-preserved : goal.steps-preserved
@@ -28,12 +28,12 @@ steps-preserved c =
     let early : here.position < place = omega (arith, c.steps-test.true, c.position.ensures.position) in
     let on : next.position ≡ here.position + 1 = position_on here next first.trace place c.in_ok-make-2.ensures c.steps.invariant.trace early within in
     record {
-      dictionary = ap (λ (x : Session). x.dictionary) c.in_ok-make-2.ensures ∙ c.steps.invariant.dictionary;
+      redaction = ap (λ (x : Session). x.redaction) c.in_ok-make-2.ensures ∙ c.steps.invariant.redaction;
       trace = ap (λ (x : Session). x.trace) c.in_ok-make-2.ensures ∙ c.steps.invariant.trace;
       breaks = ap (λ (x : Session). x.breaks) c.in_ok-make-2.ensures ∙ c.steps.invariant.breaks;
       short = omega (arith, on, early);
-      following = following_after here next first.trace place c.in_ok-make-2.ensures c.steps.invariant.trace early within first.dictionary c.steps.invariant.dictionary c.args.id c.follow.new.self c.in_ok-lines.ensures.after;
-      told = told_on here next first.trace place c.in_ok-make-2.ensures c.steps.invariant.trace early within first.dictionary c.steps.invariant.dictionary c.args.id c.args.secrets c.steps.text.items c.in_ok-lines.lines.items
+      following = following_after here next first.trace place c.in_ok-make-2.ensures c.steps.invariant.trace early within first.redaction c.steps.invariant.redaction c.args.id c.follow.new.self c.in_ok-lines.ensures.after;
+      told = told_on here next first.trace place c.in_ok-make-2.ensures c.steps.invariant.trace early within first.redaction c.steps.invariant.redaction c.args.id c.steps.text.items c.in_ok-lines.lines.items
           c.push_told.new.text.items c.steps.invariant.told c.in_ok-lines.ensures.lines
           (c.in_ok-push_told.ensures ∙ ap (λ lines. c.steps.text.items ++ step_told next.position (last_position next) (step_of (entry_of next)) lines) c.deref.ensures.value);
     }

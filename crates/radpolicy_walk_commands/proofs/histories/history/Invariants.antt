@@ -5,12 +5,12 @@ use Rattle.radpolicy_walk_commands.proofs.histories.history.Given as goal
 
 abbrev pub invariant-steps : goal.invariant-steps
 invariant-steps l = record {
-  dictionary : l.session.dictionary ≡ l.initial.session.dictionary;
+  redaction : l.session.redaction ≡ l.initial.session.redaction;
   trace : l.session.trace ≡ l.initial.session.trace;
   breaks : l.session.breaks ≡ l.initial.session.breaks;
   short : l.session.position ≤ l.place;
-  following : AreFollowing l.initial.session.dictionary l.id l.initial.session.trace l.session.position l.followers;
-  told : IsHistory l.initial.session.dictionary l.secrets l.id l.initial.session.trace l.session.position l.text.items;
+  following : AreFollowing l.initial.session.redaction.dictionary l.id l.initial.session.trace l.session.position l.followers;
+  told : IsHistory l.initial.session.redaction l.id l.initial.session.trace l.session.position l.text.items;
 }
 
 abbrev pub decreases-steps : goal.decreases-steps

@@ -9,4 +9,4 @@ of-requires c =
     subst (λ w. SearchesFor w (matcher_pattern c.in_ok-matcher.matcher)) c.self.view_is
     (subst (SearchesFor (record { text = regex_source c.self.inside.regex; flags = c.self.inside.flags }))
     (sym c.in_ok-matcher.ensures.pattern)
-    (searches_for c.self.inside.regex c.self.inside.flags c.self.invariant.0 c.self.invariant.1))
+    (searches_for c.self.inside.regex c.self.inside.flags c.self.invariant.0 c.self.invariant.1 c.self.invariant.2.read))

@@ -7,7 +7,7 @@ use Rattle.radpolicy_record_answers.proofs.differences.Printer.push_all_added.Go
 
 pub loop-rest-preserved : goal.loop-rest-preserved
 loop-rest-preserved c =
-    let line = added_line c.args.self.now.new.now c.args.self.now.secrets in
+    let line = added_line c.args.self.now.new.now c.args.self.now.redaction.now in
     record {
       fit = later_fit c.args.self.now.new.now c.loop-rest.rest.now c.in-len1-up.len_at_least c.loop-rest.invariant.fit;
       text = later_text line c.loop-rest.rest.now c.pair-item.result c.loop-rest.text.items c.push_added.new.text.items (c.args.text.now.items ++ flat_map line (pairs_of c.args.pairs.now))

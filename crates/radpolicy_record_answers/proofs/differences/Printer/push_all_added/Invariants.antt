@@ -8,8 +8,8 @@ use Rattle.radpolicy_record_answers.proofs.differences.Printer.push_all_added.Gi
 abbrev pub invariant-loop-rest : goal.invariant-loop-rest
 invariant-loop-rest l = record {
   fit : AllFit l.self.new.now (pairs_of l.rest);
-  text : l.text.items ++ flat_map (added_line l.self.new.now l.self.secrets) (pairs_of l.rest)
-      ≡ l.fn.text.items ++ flat_map (added_line l.self.new.now l.self.secrets) (pairs_of l.pairs);
+  text : l.text.items ++ flat_map (added_line l.self.new.now l.self.redaction.now) (pairs_of l.rest)
+      ≡ l.fn.text.items ++ flat_map (added_line l.self.new.now l.self.redaction.now) (pairs_of l.pairs);
 }
 
 abbrev pub decreases-loop-rest : goal.decreases-loop-rest

@@ -6,9 +6,9 @@ use Rattle.radpolicy_record_answers.proofs.differences.Printer.push_all_instance
 
 abbrev pub invariant-loop-rest : goal.invariant-loop-rest
 invariant-loop-rest l = l.text.items
-    ++ flat_map (instances_change (removed_line l.self.old.now l.self.secrets) (added_line l.self.new.now l.self.secrets) (pairs_of l.old) (pairs_of l.new)) l.rest
+    ++ flat_map (instances_change (removed_line l.self.old.now l.self.redaction.now) (added_line l.self.new.now l.self.redaction.now) (pairs_of l.old) (pairs_of l.new)) l.rest
     ≡ l.fn.text.items
-    ++ flat_map (instances_change (removed_line l.self.old.now l.self.secrets) (added_line l.self.new.now l.self.secrets) (pairs_of l.old) (pairs_of l.new)) l.ids
+    ++ flat_map (instances_change (removed_line l.self.old.now l.self.redaction.now) (added_line l.self.new.now l.self.redaction.now) (pairs_of l.old) (pairs_of l.new)) l.ids
 
 abbrev pub decreases-loop-rest : goal.decreases-loop-rest
 decreases-loop-rest l = length l.rest

@@ -8,8 +8,8 @@ use Rattle.radpolicy_record_answers.proofs.differences.Printer.push_all_removed.
 abbrev pub invariant-loop-rest : goal.invariant-loop-rest
 invariant-loop-rest l = record {
   fit : AllFit l.self.old.now (pairs_of l.rest);
-  text : l.text.items ++ flat_map (removed_line l.self.old.now l.self.secrets) (pairs_of l.rest)
-      ≡ l.fn.text.items ++ flat_map (removed_line l.self.old.now l.self.secrets) (pairs_of l.pairs);
+  text : l.text.items ++ flat_map (removed_line l.self.old.now l.self.redaction.now) (pairs_of l.rest)
+      ≡ l.fn.text.items ++ flat_map (removed_line l.self.old.now l.self.redaction.now) (pairs_of l.pairs);
 }
 
 abbrev pub decreases-loop-rest : goal.decreases-loop-rest

@@ -12,12 +12,12 @@ pub returns-then-not-may_change-clause-lines : goal.returns-then-not-may_change-
 returns-then-not-may_change-clause-lines c =
     let s = c.args.session.now in
     let none = ap (λ step. may_change_by c.args.self.now.edited step.label) (sym c.step.ensures) ∙ sym c.may_change.ensures ∙ c.if-not-may_change.true in
-    nothing_told s.dictionary c.args.secrets (list_name c.args.list) (instances c.args.id (list_of c.args.list (entry_at s.trace (s.position - 1)).outcome.state))
+    nothing_told s.redaction (list_name c.args.list) (instances c.args.id (list_of c.args.list (entry_at s.trace (s.position - 1)).outcome.state))
     (instances c.args.id (list_of c.args.list (entry_of s).outcome.state)) c.new.result.items
-    (left_there s.dictionary c.args.list c.args.id s.trace s.position c.args.self.now c.requires.before c.requires.moved c.position-within.ensures.within none) c.new.ensures.items
+    (left_there s.redaction.dictionary c.args.list c.args.id s.trace s.position c.args.self.now c.requires.before c.requires.moved c.position-within.ensures.within none) c.new.ensures.items
 
 pub returns-then-not-may_change-clause-after : goal.returns-then-not-may_change-clause-after
 returns-then-not-may_change-clause-after c =
     let s = c.args.session.now in
     let none = ap (λ step. may_change_by c.args.self.now.edited step.label) (sym c.step.ensures) ∙ sym c.may_change.ensures ∙ c.if-not-may_change.true in
-    still_following s.dictionary c.args.list c.args.id s.trace s.position c.args.self.now c.requires.before c.requires.moved c.position-within.ensures.within none
+    still_following s.redaction.dictionary c.args.list c.args.id s.trace s.position c.args.self.now c.requires.before c.requires.moved c.position-within.ensures.within none

@@ -11,14 +11,14 @@ pub invariant_of-result : goal.invariant_of-result
 invariant_of-result c =
     let start = c.args.start in
     let lists = lists_of_start start in
-    let dictionary = ap (λ (w : Walk). w.dictionary) c.to_start.ensures ∙ c.in_ok-steps.ensures.dictionary ∙ ap (λ (w : Walk). w.dictionary) c.in_ok-stepper.ensures.start ∙ sym c.dictionary-dictionary.ensures in
+    let dictionary = ap (λ (w : Walk). w.dictionary) c.to_start.ensures ∙ c.in_ok-steps.ensures.dictionary ∙ ap (λ (w : Walk). w.dictionary) c.in_ok-stepper.ensures.start ∙ sym (c.in_ok-redaction.ensures.dictionary ∙ c.dictionary-dictionary.ensures) in
     let trace = ap (λ (w : Walk). w.trace) c.to_start.ensures ∙ c.in_ok-steps.ensures.trace in (
       dictionary,
       c.in_ok-steps.ensures.steps ∙ ap (map step_of) (sym trace),
       (
         lists,
         trace ∙ ap (λ (w : Walk). w.trace) c.in_ok-stepper.ensures.start
-            ∙ ap (λ (d : Dictionary). trace_of d start.prepared.statements lists) (sym c.dictionary-dictionary.ensures)
-            ∙ ap (λ (ss : List Statement). trace_of c.dictionary-dictionary.result.now ss lists) (sym c.policy-policy.ensures),
+            ∙ ap (λ (d : Dictionary). trace_of d start.prepared.statements lists) (sym (c.in_ok-redaction.ensures.dictionary ∙ c.dictionary-dictionary.ensures))
+            ∙ ap (λ (ss : List Statement). trace_of c.in_ok-redaction.redaction.dictionary ss lists) (sym c.policy-policy.ensures),
       ),
     )

@@ -1,0 +1,3 @@
+pub mod Concealing
+pub mod SecretNames
+pub mod Words

@@ -1,0 +1,26 @@
+//! What a FreeRADIUS server 3.2.1 does with a policy of its own language, as a definition and as a run that is it.
+//!
+//! The definition is [`server_run`](../specs/Running.antt) over the tree of a section after its macros. [`run_server`]
+//! is for tests and comparisons. How a text becomes a tree is not said here.
+#![tactic(auto)]
+
+mod answering;
+mod codes;
+mod conditions;
+mod edits;
+mod frames;
+mod lines;
+mod running;
+mod servers;
+mod texts;
+mod tree;
+
+pub use codes::{Action, Section, ServerCode};
+pub use conditions::{ServerComparand, ServerComparison, ServerCondition};
+pub use frames::{Frame, Place};
+pub use running::run_server;
+pub use servers::Server;
+pub use tree::{
+    OwnAction, OwnActions, ServerBranch, ServerCase, ServerLine, ServerPart, ServerParts,
+    ServerSource, ServerStatement, TextType,
+};

@@ -1,0 +1,167 @@
+"""Policies and requests at random. What is never drawn is a list in SERVER.md, each row with its reason."""
+import random
+from typing import Dict, List, Sequence
+
+from servers.trees import (
+    ADDRESS, NUMBER, OCTETS, STRING, Asked, Attribute, Block, Branch, Call, Case, Compare, Condition, Group, If, Joined,
+    Line, Literal, Not, Own, Part, Present, Return, Statement, Switch, Text, Update, Value,
+)
+
+MOST_DEPTH = 4
+LISTS = ("request", "reply", "control")
+NAMES: Dict[str, Sequence[str]] = {
+    STRING: ("User-Name", "Filter-Id", "Calling-Station-Id", "Callback-Number", "Tmp-String-0"),
+    OCTETS: ("Class", "Tmp-Octets-0"),
+    NUMBER: ("NAS-Port", "Session-Timeout", "Service-Type", "Tmp-Integer-0"),
+    ADDRESS: ("Framed-IP-Address", "NAS-IP-Address", "Tmp-IP-Address-0"),
+}
+VALUES: Dict[str, Sequence[str]] = {
+    STRING: ("bob", "alice", "x", "7", "gold@example.org", "0x41", "0x4", "Framed-User", ""),
+    OCTETS: ("0x01", "0x0102", "0x626f62", "0x3031"),
+    NUMBER: ("0", "1", "2", "7", "60"),
+    ADDRESS: ("10.0.0.1", "10.0.0.2", "192.168.1.16", "0.0.0.7"),
+}
+# What a client may send.
+SENT = {
+    STRING: ("User-Name", "Filter-Id", "Calling-Station-Id"), OCTETS: ("Class",), NUMBER: ("NAS-Port", "Service-Type"),
+    ADDRESS: ("Framed-IP-Address", "NAS-IP-Address"),
+}
+PIECES = ("a", "b", "1", "x@y", ".")
+OPERATORS = (":=", ":=", ":=", "=", "+=", "+=", "^=", "-=", "==", "!*")
+RELATIONS = ("==", "==", "!=", "<", "<=", ">", ">=")
+CODES = ("reject", "fail", "ok", "handled", "invalid", "userlock", "notfound", "noop", "updated")
+GOING_ON = ("ok", "noop", "updated", "notfound")
+
+
+class Drawing:
+    """Draws one policy and its requests, the same for a seed in each run."""
+
+    def __init__(self, seed: str, name: str) -> None:
+        self.chance = random.Random(seed)
+        self.name = name
+        self.called = 0
+
+    # ---- attributes and values
+
+    def kind(self) -> str:
+        return self.chance.choice((STRING, STRING, STRING, OCTETS, NUMBER, NUMBER, ADDRESS))
+
+    def attribute(self, kind: str) -> Attribute:
+        return Attribute(self.chance.choice(LISTS), self.chance.choice(NAMES[kind]), kind)
+
+    def literal(self, attribute: Attribute) -> Literal:
+        if attribute.name == "Service-Type" and self.chance.random() < 0.5:
+            return Literal(self.chance.choice(("Framed-User", "Login-User")), NUMBER)
+        return Literal(self.chance.choice(VALUES[attribute.kind]), attribute.kind)
+
+    def text(self, kind: str) -> Text:
+        """A text for a value of a type, of which at most one part is a string, so that texts stay short. No octets are
+        put into texts for strings and numbers: as a number they may be too great."""
+        if kind == ADDRESS:
+            return Text([self.attribute(ADDRESS)], kind)
+        if kind == OCTETS:
+            return Text([self.attribute(self.kind())], kind)
+        put: Part = self.attribute(self.chance.choice((STRING, STRING, NUMBER, ADDRESS)))
+        if kind == NUMBER:
+            return Text([put], kind)
+        parts: List[Part] = [put]
+        if self.chance.random() < 0.5:
+            parts.insert(self.chance.randrange(2), self.chance.choice(PIECES))
+        if self.chance.random() < 0.3:
+            parts.append(self.attribute(ADDRESS))
+        return Text(parts, kind)
+
+    def value(self, attribute: Attribute) -> Value:
+        share = self.chance.random()
+        if share < 0.45:
+            return self.literal(attribute)
+        return self.attribute(attribute.kind) if share < 0.75 else self.text(attribute.kind)
+
+    # ---- conditions
+
+    def question(self) -> Condition:
+        share = self.chance.random()
+        if share < 0.2:
+            return Asked(self.chance.choice(CODES))
+        attribute = self.attribute(self.kind())
+        if share < 0.45:
+            return Present(attribute)
+        return Compare(attribute, self.chance.choice(RELATIONS), self.value(attribute))
+
+    def condition(self, depth: int) -> Condition:
+        share = self.chance.random()
+        if depth == 0 or share < 0.4:
+            return self.question()
+        if share < 0.55:
+            inner = self.condition(depth - 1)
+            return self.question() if isinstance(inner, Not) else Not(inner)
+        sign = self.chance.choice(("&&", "||"))
+        return Joined(sign, self.condition(depth - 1), self.condition(depth - 1), self.chance.random() < 0.3)
+
+    # ---- statements
+
+    def line(self) -> Line:
+        attribute = self.attribute(self.kind())
+        operator = self.chance.choice(OPERATORS)
+        if operator == "==" and attribute.list == "request":
+            operator = ":="
+        return Line(attribute, operator, None if operator == "!*" else self.value(attribute))
+
+    def update(self) -> Update:
+        return Update([self.line() for _ in range(self.chance.randrange(1, 5))])
+
+    def actions(self, share: float) -> List[Own]:
+        """Each code has one at most: a server counts the last of two."""
+        if self.chance.random() > share:
+            return []
+        codes = self.chance.sample(CODES, self.chance.randrange(1, 4))
+        return [Own(code, self.chance.choice(("return", "reject", "1", "2", "3", "4", "5", "9"))) for code in codes]
+
+    def block(self, depth: int) -> Block:
+        statements = [self.statement(depth) for _ in range(self.chance.choice((0, 1, 1, 2, 3)))]
+        return Block(self.actions(0.15), statements)
+
+    def choice(self, depth: int) -> If:
+        branches = [
+            Branch(self.condition(3), self.block(depth - 1)) for _ in range(self.chance.choice((1, 1, 1, 2, 3)))]
+        return If(branches, self.block(depth - 1) if self.chance.random() < 0.4 else None)
+
+    def group(self, depth: int) -> Group:
+        if self.chance.random() < 0.5:
+            return Group("", self.block(depth - 1))
+        self.called += 1
+        return Group(f"{self.name}_{self.called}", self.block(depth - 1))
+
+    def switch(self, depth: int) -> Switch:
+        attribute = self.attribute(self.kind())
+        values = [self.literal(attribute) for _ in range(self.chance.randrange(1, 4))]
+        cases = [Case(value, self.block(depth - 1)) for value in values if value.text]
+        if not cases or self.chance.random() < 0.6:
+            cases.insert(self.chance.randrange(len(cases) + 1), Case(None, self.block(depth - 1)))
+        return Switch(attribute, cases)
+
+    def statement(self, depth: int) -> Statement:
+        share = self.chance.random()
+        if share < 0.45 and depth:
+            return self.chance.choice((self.choice, self.choice, self.group, self.switch))(depth)
+        if share < 0.6:
+            return Call(self.chance.choice((*GOING_ON, *GOING_ON, *CODES)), self.actions(0.25))
+        if share < 0.62:
+            return Return()
+        return self.update()
+
+    def policy(self) -> List[Statement]:
+        return [self.statement(MOST_DEPTH - 1) for _ in range(self.chance.randrange(2, 6))]
+
+    # ---- requests
+
+    def request(self) -> List[Literal]:
+        """The names of what is sent with the texts of its values."""
+        sent = []
+        for kind, names in SENT.items():
+            for name in names:
+                for _ in range(self.chance.choice((0, 1, 1, 2))):
+                    values = [value for value in VALUES[kind] if value != ""]
+                    sent.append((name, Literal(self.chance.choice(values), kind)))
+        self.chance.shuffle(sent)
+        return sent
