@@ -41,14 +41,20 @@ def changed_at(crate):
     return max(it.stat().st_mtime for it in [TOP / "crates.txt", *files])
 
 
+def proved_at(crate, folder):
+    """Returns when the library in a folder was proved, or nothing where none is there. One that the kit had kept has the
+    time of its first proof, and beside it scripts/prove-all tells when it was taken for a proof of the present sources."""
+    told = [it for it in (folder / "proved", folder / f"{crate}.rlib/format") if it.is_file()]
+    return max((it.stat().st_mtime for it in told), default=None)
+
+
 def library_of(crate):
     """Returns the folder with a library of the crate's present sources, which the gate or scripts/build made."""
     why = "is not built"
     for folder in (CRATES / crate / "out/rlib", CRATES / crate / "out/rlib/statements"):
-        proved = folder / "proved"
-        proved = proved if proved.is_file() else folder / f"{crate}.rlib/format"
-        if proved.is_file():
-            if proved.stat().st_mtime >= changed_at(crate):
+        proved = proved_at(crate, folder)
+        if proved is not None:
+            if proved >= changed_at(crate):
                 return folder
             why = "is older than a source"
     raise Lacking(f"the library {crate} {why}: scripts/build {crate} makes it, and so does the gate")

@@ -3,6 +3,7 @@ import json
 import os
 import shutil
 import subprocess
+import sys
 from pathlib import Path
 from typing import Callable, Dict, List
 
@@ -62,6 +63,13 @@ class Tree:
         how = {"stdin": subprocess.DEVNULL, "stdout": subprocess.PIPE, "stderr": subprocess.STDOUT, "text": True}
         return subprocess.run([self.folder / "scripts/prove-all"], env=environment, **how)
 
+    def lacking(self, crate: str) -> List[str]:
+        """Why wrong bodies can't be tried over a library."""
+        asked = f"from wrong_bodies.libraries import library_of; library_of({crate!r})"
+        environment = {**os.environ, "PYTHONPATH": str(self.folder / "scripts"), "PYTHONDONTWRITEBYTECODE": "1"}
+        ran = subprocess.run([sys.executable, "-c", asked], env=environment, stderr=subprocess.PIPE, text=True)
+        return ran.stderr.splitlines()[-1:]
+
     def proved(self) -> List[str]:
         return [line.split()[0] for line in (self.kit / "proved").read_text().splitlines()]
 
@@ -114,9 +122,12 @@ def check_jobs(tree: Tree, report: Report) -> None:
 
 
 def check_keeping_kit(tree: Tree, report: Report) -> None:
-    """A kit that keeps proofs itself: the store has the archives of what it kept, and it proves anew where that is asked."""
+    """A kit that keeps proofs itself: the store has the archives of what it kept, its libraries are taken for what they
+    are though they are older than a new clone, and it proves anew where that is asked."""
     shutil.rmtree(tree.folder / "crates/archive/out")
     report.check("proofs: an archive of what the kit kept", faults(tree, [], "4 kept by the kit", KEEPS="1"))
+    wrong = [f"{crate} {why}" for crate in ("lower", "upper") for why in tree.lacking(crate)]
+    report.check("proofs: libraries that the kit kept", wrong)
     ran = tree.run(KEEPS="1", FROM_NOTHING="1")
     is_right = "rt ci --anew" in ran.stdout.splitlines()
     report.check("proofs: from nothing by a kit that keeps", [] if is_right else [f"it says {ran.stdout}"])

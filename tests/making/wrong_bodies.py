@@ -158,10 +158,16 @@ class Tree:
     def build(self, crate: str, text: str = "") -> None:
         self._write(f"crates/{crate}/out/rlib/{crate}.rlib/format", text)
 
-    def change(self, crate: str) -> None:
+    def change(self, crate: str, after: float = 60) -> None:
         """Makes a source of the crate newer than all that is built."""
-        later = time.time() + 60
+        later = time.time() + after
         os.utime(self._root / "crates" / crate / LIB, (later, later))
+
+    def tell_proved(self, crate: str, after: float = 90) -> None:
+        """Tells, later than that, that the library is one of the crate's present source."""
+        proved = self._root / "crates" / crate / "out/rlib/proved"
+        proved.touch()
+        os.utime(proved, (time.time() + after, time.time() + after))
 
     def give(self, edits: Edits, folder: str = "wrong-bodies") -> None:
         """Gives the upper crate more wrong bodies."""
@@ -249,6 +255,9 @@ def check_chosen(tree: Tree, report: Report) -> None:
         wrong = [] if ran.returncode == 1 and "wrong bodies:" not in ran.stdout else [f"it says {ran.stdout!r}"]
         report.check(f"wrong bodies: none of {crate}", wrong)
     tree.change("lower")
+    tree.tell_proved("lower")
+    report.check("wrong bodies: over a library that was taken for the source", faults(tree, both, len(both), "tried"))
+    tree.change("lower", 120)
     older = {name: "NOT TRIED: the library lower is older than a source" for name in both}
     report.check("wrong bodies: over an old library", faults(tree, older, 0) + faults_of_checks(tree))
 
