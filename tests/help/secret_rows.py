@@ -1,7 +1,7 @@
 """Files that have a secret, and what help shows of them: the caret of a place in what is hidden is below `(hidden)`."""
 from typing import Dict, List, NamedTuple
 
-SECRET = "hunter2secret"
+SECRET = "hunter2x9QwZ7"
 DIGITS = SECRET.encode().hex()
 DICTIONARY = """ATTRIBUTE User-Name 1 string
 ATTRIBUTE User-Password 2 string encrypt=1
