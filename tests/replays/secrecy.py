@@ -232,10 +232,10 @@ def check_proxy_states(subject: Subject, report: Report) -> None:
                 lines = place.replay(text, ["--format", "records", *options]).output.splitlines()
                 wanted = [b"210301" in lines[0] if is_shown else lines[0] == b"1 %s (secret)" % result, b"(secret)" not in lines[1]]
                 wrong += [] if len(lines) == 2 and all(wanted) else [f"{result!r} {options}: {lines}"]
-        key = b"Proxy-State = 0x" + b"psk=hunter2".hex().encode() + b"\nNAS-Port = 3\n"
+        key = b"Proxy-State = 0x" + b"psk=hunter2x9Qw".hex().encode() + b"\nNAS-Port = 3\n"
         for options in ([], ["--json"], ["--against", "captured", "--all", "--show-replies"]):
             ended = Place(subject, folder, "policy", b"ok\n").replay(key, ["--format", "records", *options])
-            wrong += [f"{options}: {leak}" for leak in secrets.leaks(ended.output + ended.errors, [b"hunter2"])]
+            wrong += [f"{options}: {leak}" for leak in secrets.leaks(ended.output + ended.errors, [b"hunter2x9Qw"])]
             wrong += [] if b"(secret)" in ended.output or options[:1] == ["--against"] else [f"{options}: {ended}"]
     report.check("replay: a request's Proxy-States in a reply are hidden", wrong)
 
