@@ -123,10 +123,34 @@ def check_pipes(place: Place, report: Report) -> None:
     piped = ["sh", "-c", 'cat sections | { exec 3<&0 </dev/null; timeout 10 "$@"; }', "sh", *words]
     ended = run(piped, place.folder, b"")
     report.check("replay: clients from a pipe", [] if ended.status == 0 else [f"{ended}"])
+    words[words.index("--clients")] = "-S"
+    piped[2] = piped[2].replace("sections", "secret")
+    ended = run([*piped[:4], *words], place.folder, b"")
+    report.check("replay: a secret from a pipe", [] if ended.status == 0 else [f"{ended}"])
+
+
+# Files of clients of which a line can't be read: no help shows the secret.
+FAULTY = [
+    "192.0.2.300 {s}\n", "192.0.2.1 {s} more\n", "192.0.2.1/33 {s}\n", "192.0.2.1={s}\n", "{s} 192.0.2.1\n",
+    "192.0.2.1:{s}\n", 'client a {{\nsecret = "{s}\n}}\n', "client a {{\nsecret = {s}\n}}\n",
+    "client a {{\nipaddr = no.address\nsecret = {s}\n}}\n",
+]
+
+
+def check_faulty(place: Place, report: Report) -> None:
+    wrong, secret = [], "hunter2x9Qw"
+    for text in FAULTY:
+        (place.folder / "faulty").write_text(text.format(s=secret))
+        program = place.subject.driver("radpolicy_replay")
+        words = [str(program), "--policy", place.policy, "--clients", "faulty", str(DICTIONARY)]
+        ended = run(words, place.folder, b"", {"RADPOLICY_HELP": "always"})
+        wrong += [] if ended.status == 2 and b"E02 faulty:" in ended.errors else [f"{text!r}: {ended}"]
+        wrong += [f"{text!r}: {ended}"] if secret.encode() in ended.errors else []
+    report.check("replay: no secret of a client that is not read is shown", wrong)
 
 
 def check(subject: Subject, report: Report) -> None:
     with new_folder() as folder:
         place = Place(subject, Path(folder))
-        for part in (check_clients, check_refused, check_pipes):
+        for part in (check_clients, check_refused, check_pipes, check_faulty):
             part(place, report)
