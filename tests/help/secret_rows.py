@@ -95,6 +95,13 @@ lines:1:1
     ^
 no attribute has the name passwd:
 """),
+    Row("a colon between a name and its value", ENCODE, f"User-Password:{SECRET}\n", """\
+radpolicy: E32 request:1: unknown attribute
+lines:1:1
+    User-Password(hidden)
+    ^
+no attribute has the name that is hidden here
+"""),
     Row("a name of two words", ENCODE, f'Pass word = "{SECRET}"\n', """\
 radpolicy: E32 request:1: unknown attribute
 lines:1:1
@@ -136,6 +143,29 @@ policy:2:26
     if (&reply:Reply-Message = (hidden)
                              ^
 found =; here may be one of == != < <= > >= && || )
+"""),
+    Row("a copy into an instance", CHECK,
+        f'if (&control:Reply-Message = "{SECRET}") {{ ok }}\n'
+        "update control {\n\t&Reply-Message[0] := &User-Password\n}\n", """\
+radpolicy: E51 policy:1: token does not fit
+policy:1:28
+    if (&control:Reply-Message = (hidden)
+                               ^
+found =; here may be one of == != < <= > >= && || )
+"""),
+    Row("a copy without quotes", CHECK,
+        f'if (&control:Reply-Message = "{SECRET}") {{ ok }}\n'
+        "update control {\n\tReply-Message := %{User-Password}\n}\n", """\
+radpolicy: E51 policy:1: token does not fit
+policy:1:28
+    if (&control:Reply-Message = (hidden)
+"""),
+    Row("the value of a loop", CHECK,
+        f'if (&control:Reply-Message = "{SECRET}") {{ ok }}\nforeach &User-Password {{\nupdate control {{\n'
+        'Reply-Message := "%{Foreach-Variable-0}"\n}\n}\n', """\
+radpolicy: E51 policy:1: token does not fit
+policy:1:28
+    if (&control:Reply-Message = (hidden)
 """),
     Row("a capture", CHECK,
         f'# profile: wider\nif (&User-Password =~ /(.*)/) {{\n\tif ("%{{1}}" = "{SECRET}") {{ reject }}\n}}\n', """\

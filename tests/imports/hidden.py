@@ -152,6 +152,19 @@ ROWS: Dict[str, Row] = {
     "a copy": Row(
         'update {\nTmp-String-0 := &User-Password\n}\nif (&Tmp-String-0 =~ /(?=hunter2x)/) {\nok\n}',
         "if (&Tmp-String-0 =~ (hidden))"),
+    "a copy into an instance": Row(
+        'update {\n&Tmp-String-0[n] := &User-Password\n}\nif (&Tmp-String-0 == "hunter2x" && &No-Such) {\nok\n}',
+        "if (&Tmp-String-0 == (hidden) && &No-Such)"),
+    "a copy by a function of a list's attribute": Row(
+        'update {\nTmp-String-0 := "%{string:control:Cleartext-Password}"\n}\n'
+        'if (&Tmp-String-0 == "hunter2x" && &No-Such) {\nok\n}',
+        "if (&Tmp-String-0 == (hidden) && &No-Such)"),
+    "an attribute by a number that no dictionary has": Row(
+        'if (&Attr-26.40000.1 == "hunter2x" && &No-Such) {\nok\n}', "if (&Attr-26.40000.1 == (hidden) && &No-Such)"),
+    "such a number in a server's words": Row(
+        'update reply {\nVendor-40000-Attr-1 := "hunter2x"\n}', "Vendor-40000-Attr-1 := (hidden)"),
+    "what follows a value with a sign": Row("update {\nNo-Such-Password := a x = hunter2x\n}", "(hidden)"),
+    "what follows a value with a brace": Row('update {\nNo-Such-Password := a "hunter2x" {\n}\n}', "(hidden)"),
     "a capture": Row(
         'if (&User-Password =~ /(.*)/) {\nok\n}\nif ("%{1}" == "hunter2x" && &No-Such) {\nok\n}',
         "if ((hidden) == (hidden) && &No-Such)"),

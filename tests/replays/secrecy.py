@@ -251,6 +251,8 @@ EARLIER: List[Tuple[str, bytes, bytes, List[str], bytes]] = [
      b'expected (hidden) / now {"record":"1","verdict":"answered","result":"ok","stopped":false,"reply":"(secret)"}'),
     ("a secret attribute's line that is there no more", b'  - Hidden-Text = "hunter2"', b"ok\n", [],
      b"expected   - Hidden-Text = (hidden) / now 1 ok 02"),
+    ("one below a test", b'#   - Hidden-Text = "hunter2"', b"ok\n", ["--tap"],
+     b"expected #   - Hidden-Text = (hidden) / now TAP version 13"),
     ("a copy's line that is there no more", b'  - Reply-Message = "hunter2"', COPY, ["--against", "old"],
      b"expected   - Reply-Message = (hidden) / now (no line)"),
     ("another line", b"1 ok hello", b"ok\n", [], b"expected 1 ok hello / now 1 ok 02"),
