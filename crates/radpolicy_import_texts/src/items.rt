@@ -174,7 +174,7 @@ fn called(text: &[u8]) -> &[u8] {
     }
 }
 
-// Whether an item is what follows a secret value on its line, as the second word of a value without quotes.
+// Whether an item is what follows a secret value on its line, as further words of a value without quotes.
 fn follows_secret(
     names: &SecretNames<'_>,
     configuration: &Configuration,
@@ -184,10 +184,8 @@ fn follows_secret(
     let Some(before) = configuration.items.get(place.saturating_sub(1)) else {
         return false;
     };
-    matches!(
-        (&item.content, &before.content),
-        (Content::Word { .. }, Content::Pair { .. })
-    ) && (item.file, item.line) == (before.file, before.line)
+    matches!(&before.content, Content::Pair { .. })
+        && (item.file, item.line) == (before.file, before.line)
         && names.item_speaks(configuration, before)
 }
 

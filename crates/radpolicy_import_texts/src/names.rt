@@ -118,12 +118,22 @@ fn target(name: &Text) -> &[u8] {
     if word.ends_with(b":") {
         return b"";
     }
-    let mut words = word.split(|octet| !is_name_octet(*octet));
+    // (which instance it is doesn't matter)
+    let name = word.split(|octet| *octet == b'[').next().unwrap_or(word);
+    let mut words = name.split(|octet| !is_name_octet(*octet));
     match (words.next(), words.next()) {
         (_, Some(second)) if !is_number(second) => second,
         (Some(first), _) => first,
         (None, _) => b"",
     }
+}
+
+// Whether a word is the number of an attribute, as `Attr-26.40000.1` or a server's `Vendor-40000-Attr-1`.
+fn is_numbered(word: &[u8]) -> bool {
+    [b"Attr-".as_slice(), b"Vendor-".as_slice()].iter().any(|begin| {
+        let (front, back) = word.split_at(begin.len().min(word.len()));
+        front.eq_ignore_ascii_case(begin) && back.first().is_some_and(u8::is_ascii_digit)
+    })
 }
 
 fn has_pattern(arguments: &[Text]) -> bool {
@@ -273,10 +283,10 @@ impl<'a> SecretNames<'a> {
             .any(|word| self.is_secret(word))
     }
 
-    // Whether what follows a brace or a `&` is a reference to one of them, or to what was captured of one: its first word
-    // is its list or its name.
+    // Whether what follows a brace or a `&` is a reference to one of them, or to what was captured of one: its first words
+    // are a function's name, its list and its own name, or some of these.
     fn begins(&self, octets: &[u8]) -> bool {
-        octets.split(|octet| !is_name_octet(*octet)).take(2).any(|word| (self.holds
+        octets.split(|octet| !is_name_octet(*octet)).take(3).any(|word| (self.holds
             && is_held(word))
             || self.is_secret(word))
     }
@@ -307,8 +317,18 @@ impl<'a> SecretNames<'a> {
         self.all || self.refers(octets) || self.assigns_secret(octets)
     }
 
+    // Whether one of a text's words is the number of an attribute that the dictionary does not describe: nobody knows what
+    // its octets are.
+    fn names_number(&self, octets: &[u8]) -> bool {
+        octets
+            .split(|octet| !is_name_octet(*octet))
+            .any(|word| is_numbered(word) && !self.is_attribute(word))
+    }
+
     fn speaks_in(&self, text: &Text) -> bool {
-        self.speaks(&text.octets) || (text.quote == Quote::Bare && self.names_secret(&text.octets))
+        self.speaks(&text.octets)
+            || (text.quote == Quote::Bare
+                && (self.names_secret(&text.octets) || self.names_number(&text.octets)))
     }
 
     fn speak(&self, texts: &[Text]) -> bool {
