@@ -107,6 +107,9 @@ impl Suspects<'_> {
                 };
                 place.hide_before(hidden, self.secrets)?;
                 place.hide_behind(hidden, self.secrets, mention)?;
+                if let Some(at) = self.secrets.joint_in(word.octets) {
+                    hidden.add(word.offset.saturating_add(at))?;
+                }
                 covered = hidden.covered_to(text, word.offset);
             }
         }

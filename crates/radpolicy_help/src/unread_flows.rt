@@ -36,34 +36,63 @@ fn has_operator(token: Option<&Token<'_>>) -> bool {
     }
 }
 
-// Where a reader of a text is: whether in a condition, and which attribute takes what follows.
+// Whether a token is a sign that sets or compares.
+fn is_sign(token: Token<'_>) -> bool {
+    Run::Operator.before(token.octets).is_empty()
+}
+
+// Where a reader of a text is: whether in a condition, which attribute takes what follows, and whether its name is on the
+// same line.
 #[derive(Clone, Copy)]
 struct Reader {
     in_condition: bool,
     target: Option<AttrId>,
+    is_on_line: bool,
 }
 
 impl Reader {
-    // Reads a token, and says whether it may be part of a value.
+    // Reads a token, and gives the attribute that may take it. What stands on the line of an attribute's name may all be
+    // part of its value, whatever signs are between.
     fn read(
         &mut self,
         secrets: &UnreadSecrets<'_>,
         token: Token<'_>,
         next: Option<&Token<'_>>,
-    ) -> bool {
+    ) -> Option<AttrId> {
         match token.octets {
+            [b'{' | b'}' | b'(' | b')'] if self.is_on_line => return None,
             [b'{'] => self.in_condition = false,
             [b'('] => self.in_condition = true,
             [b'}' | b')'] => {}
-            _ if self.in_condition => return false,
-            _ if token.is_word() && has_operator(next) => {
-                self.target = attribute_in(secrets, token.octets);
-                return false;
-            }
-            _ => return true,
+            _ if self.in_condition => return None,
+            _ => return self.read_word(secrets, token, next),
         }
         self.target = None;
-        false
+        None
+    }
+
+    // The same of what is no bracket, outside of a condition.
+    fn read_word(
+        &mut self,
+        secrets: &UnreadSecrets<'_>,
+        token: Token<'_>,
+        next: Option<&Token<'_>>,
+    ) -> Option<AttrId> {
+        let takes = self.target;
+        if !token.is_word() || is_sign(token) {
+            return takes;
+        }
+        let named = attribute_in(secrets, token.octets);
+        if has_operator(next) {
+            self.target = named;
+            self.is_on_line = named.is_some();
+            return None;
+        }
+        if !self.is_on_line && named.is_some() {
+            self.target = named;
+            self.is_on_line = true;
+        }
+        takes
     }
 }
 
@@ -91,8 +120,8 @@ impl Flows {
         Ok(())
     }
 
-    /// The flows of a text into attributes that are not secret as it is: what follows an operator after an attribute's
-    /// name in an update, up to the next such name.
+    /// The flows of a text into attributes that are not secret as it is: what follows an attribute's name outside of a
+    /// condition on its line, and an operator after one up to the next such name.
     pub(crate) fn of(
         alloc: Global,
         secrets: &UnreadSecrets<'_>,
@@ -105,15 +134,23 @@ impl Flows {
         let mut reader = Reader {
             in_condition: false,
             target: None,
+            is_on_line: false,
         };
+        let mut end = 0usize;
+        let mut goes_on = false;
         for (at, token) in tokens.iter().enumerate() {
             let next = tokens.get(at.saturating_add(1));
-            if reader.read(secrets, *token, next)
-                && let Some(to) = reader.target
+            let between = text.get(end..token.offset).unwrap_or(&[]);
+            if between.contains(&b'\n') && !goes_on {
+                reader.is_on_line = false;
+            }
+            if let Some(to) = reader.read(secrets, *token, next)
                 && !secrets.is_secret(to)
             {
                 flows.add_token(secrets, *token, to)?;
             }
+            end = token.offset.saturating_add(token.octets.len());
+            goes_on = is_sign(*token);
         }
         Ok(flows)
     }

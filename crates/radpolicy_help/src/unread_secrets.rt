@@ -128,9 +128,11 @@ impl<'a> UnreadSecrets<'a> {
         }
     }
 
-    /// Whether a word in an expansion stands for what was captured, where that may be secret.
+    /// Whether a word in an expansion stands for what was captured, or for the value of a server's loop, where that may be
+    /// secret.
     pub(crate) fn captures(&self, word: &[u8]) -> bool {
-        self.is_named && word.iter().all(u8::is_ascii_digit)
+        self.is_named
+            && (word.iter().all(u8::is_ascii_digit) || word.starts_with(b"Foreach-Variable-"))
     }
 
     /// Whether a word names a secret attribute, in whatever list.
@@ -140,6 +142,27 @@ impl<'a> UnreadSecrets<'a> {
                 .iter()
                 .any(|part| self.is_secret_attribute(part)),
         )
+    }
+
+    // Whether what stands before a sign in a word is the name of a secret attribute, with a list or without, and what stands
+    // behind it is no tag and no attribute's name.
+    fn joins_value(&self, front: &[u8], back: &[u8]) -> bool {
+        let name = front.split(|octet| *octet == b':').last().unwrap_or(front);
+        let is_tag = back.len() < 3 && back.iter().all(u8::is_ascii_digit);
+        self.is_secret_attribute(name) && !is_tag && !self.is_attribute(back)
+    }
+
+    /// The place in a word of the sign by which a secret attribute's name is joined to what may be its value, as in
+    /// `User-Password:hunter2`.
+    pub(crate) fn joint_in(&self, word: &[u8]) -> Option<usize> {
+        for (at, octet) in word.iter().enumerate() {
+            let front = word.get(..at).unwrap_or(&[]);
+            let back = word.get(at.saturating_add(1)..).unwrap_or(&[]);
+            if b":./@".contains(octet) && self.joins_value(front, back) {
+                return Some(at);
+            }
+        }
+        None
     }
 
     /// Whether a word is no attribute's and speaks of a secret.
