@@ -29,6 +29,12 @@ pub fn open_expected<'a>(
     }
 }
 
+// The sign before a line that is told of a test, which would begin a comment in a policy, and what is behind it.
+fn around_sign(line: &[u8]) -> (&[u8], &[u8]) {
+    let length = if line.starts_with(b"# ") { 2 } else { 0 };
+    line.split_at(length.min(line.len()))
+}
+
 // A line as it is shown: without the values that stand beside names of secret attributes.
 fn shown_line(
     alloc: Global,
@@ -36,7 +42,12 @@ fn shown_line(
     line: &Option<Vec<u8>>,
 ) -> Result<String, AllocError> {
     match line {
-        Some(octets) => shown(alloc, &unread_shown(alloc, redaction, octets)?),
+        Some(octets) => {
+            let (sign, rest) = around_sign(octets);
+            let mut text = Vec::from_slice(alloc, sign)?;
+            text.extend_from_slice(&unread_shown(alloc, redaction, rest)?)?;
+            shown(alloc, &text)
+        }
         None => String::from_str(alloc, "(no line)"),
     }
 }
