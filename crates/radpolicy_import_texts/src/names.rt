@@ -128,12 +128,19 @@ fn target(name: &Text) -> &[u8] {
     }
 }
 
+// Whether a word begins with these octets, in either case, and a digit behind them.
+fn begins_number(word: &[u8], begin: &[u8]) -> bool {
+    let (front, back) = word.split_at(begin.len().min(word.len()));
+    front.eq_ignore_ascii_case(begin)
+        && match back.first() {
+            Some(octet) => octet.is_ascii_digit(),
+            None => false,
+        }
+}
+
 // Whether a word is the number of an attribute, as `Attr-26.40000.1` or a server's `Vendor-40000-Attr-1`.
 fn is_numbered(word: &[u8]) -> bool {
-    [b"Attr-".as_slice(), b"Vendor-".as_slice()].iter().any(|begin| {
-        let (front, back) = word.split_at(begin.len().min(word.len()));
-        front.eq_ignore_ascii_case(begin) && back.first().is_some_and(u8::is_ascii_digit)
-    })
+    begins_number(word, b"Attr-") || begins_number(word, b"Vendor-")
 }
 
 fn has_pattern(arguments: &[Text]) -> bool {
