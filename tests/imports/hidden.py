@@ -163,6 +163,13 @@ ROWS: Dict[str, Row] = {
         'if (&Attr-26.40000.1 == "hunter2x" && &No-Such) {\nok\n}', "if (&Attr-26.40000.1 == (hidden) && &No-Such)"),
     "such a number in a server's words": Row(
         'update reply {\nVendor-40000-Attr-1 := "hunter2x"\n}', "Vendor-40000-Attr-1 := (hidden)"),
+    "a key with a sign spelled by an escape": Row(
+        'update reply {\nNo-Such := "psk\\075hunter2x"\n}', "No-Such := (hidden)"),
+    "a key spelled by an escape": Row('update reply {\nNo-Such := "p\\163k=hunter2x"\n}', "No-Such := (hidden)"),
+    "a key spelled by digits": Row(
+        f"update reply {{\nNo-Such := 0x{b'psk=hunter2x'.hex()}\n}}", "No-Such := (hidden)"),
+    "such digits between quotes": Row(
+        f"update reply {{\nNo-Such := '0x{b'psk=hunter2x'.hex()}'\n}}", "No-Such := (hidden)"),
     "what follows a value with a sign": Row("update {\nNo-Such-Password := a x = hunter2x\n}", "(hidden)"),
     "what follows a value with a brace": Row('update {\nNo-Such-Password := a "hunter2x" {\n}\n}', "(hidden)"),
     "a capture": Row(

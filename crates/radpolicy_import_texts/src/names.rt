@@ -143,6 +143,36 @@ fn is_numbered(word: &[u8]) -> bool {
     begins_number(word, b"Attr-") || begins_number(word, b"Vendor-")
 }
 
+fn is_octal(octet: u8) -> bool {
+    matches!(octet, b'0'..=b'7')
+}
+
+fn has_octal_escape(octets: &[u8]) -> bool {
+    octets.windows(4).any(|four| match four {
+        [b'\\', first, second, third] => {
+            is_octal(*first) && is_octal(*second) && is_octal(*third)
+        }
+        _ => false,
+    })
+}
+
+fn has_equals_sign(octets: &[u8]) -> bool {
+    octets.contains(&b'=') || octets.windows(4).any(|four| four == b"\\075".as_slice())
+}
+
+// Whether a text may spell a key and its `=` in another way than by their own octets: by an escape of octal digits, or by
+// hexadecimal digits with those of a `=`.
+fn may_spell_key(octets: &[u8]) -> bool {
+    match octets {
+        [b'0', b'x' | b'X', digits @ ..] => {
+            digits
+                .chunks(2)
+                .any(|pair| pair.eq_ignore_ascii_case(b"3d"))
+        }
+        _ => has_octal_escape(octets) && has_equals_sign(octets),
+    }
+}
+
 fn has_pattern(arguments: &[Text]) -> bool {
     arguments.iter().any(|text| text.octets.contains(&b'~'))
 }
@@ -321,7 +351,7 @@ impl<'a> SecretNames<'a> {
 
     /// Whether octets speak of one of them.
     pub(crate) fn speaks(&self, octets: &[u8]) -> bool {
-        self.all || self.refers(octets) || self.assigns_secret(octets)
+        self.all || self.refers(octets) || self.assigns_secret(octets) || may_spell_key(octets)
     }
 
     // Whether one of a text's words is the number of an attribute that the dictionary does not describe: nobody knows what
