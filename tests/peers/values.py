@@ -67,6 +67,8 @@ DIFFERENT = [
         [r'Reply-Message = "a\\%{Class}"'], [r'Reply-Message = "a\\0x6162"']),
     Row('update request {\nFilter-Id := "bob"\n}\n' + told_if("&Filter-Id == 0x626f62"), [TOLD], []),
     Row(told_if('&Filter-Id == "bob"') + told_if("&Module-Failure-Message"), [TOLD], []),
+    Row('update request {\nFilter-Id := "a\\000b"\n}\n' + told_if("&Filter-Id =~ /^(.*)b/") + put('Filter-Id := "<%{1}>"'),
+        [TOLD, 'Filter-Id = "<a>"'], [TOLD, r'Filter-Id = "<a\000>"']),
     Row(put("MIP6-Feature-Vector := 0x10"), ["MIP6-Feature-Vector = 0"], ["MIP6-Feature-Vector = 16"]),
     Row("update request {\nMIP6-Feature-Vector := 16\n}\n" + told_if("&MIP6-Feature-Vector == 0x10"), [], [TOLD]),
 ]
