@@ -1,6 +1,7 @@
 """What `radpolicy-import` writes beside the policy, and what it makes of small configurations and of crafted ones."""
 import json
 import os
+import re
 from pathlib import Path
 from typing import Dict, List, Sequence, Tuple
 
@@ -311,6 +312,9 @@ ATTRIBUTE Tunnel-Type 64 integer has_tag
 ATTRIBUTE Tunnel-Private-Group-Id 81 string has_tag
 ATTRIBUTE Framed-IPv6-Prefix 97 ipv6prefix
 ATTRIBUTE Login-IPv6-Host 98 ipv6addr
+ATTRIBUTE Prefix 1003 string
+ATTRIBUTE Group 1005 string
+ATTRIBUTE Virtual-Server 1066 string
 VALUE Acct-Terminate-Cause Session-Timeout 5
 VALUE Tunnel-Type VLAN 13
 """
@@ -384,6 +388,9 @@ TOLD: Dict[str, str] = {
     asked(r"&User-Name =~ /a{1, 2}/"): "braces with a blank in them are text",
     asked(r"&User-Name =~ /[[:<:]]b/"): "are the edges of a word",
     asked(r"&User-Name =~ /b[[:>:]]/"): "are the edges of a word",
+    asked(r"&User-Name =~ /[--a]/"): "-- and ~~ are signs by themselves",
+    asked(r"&User-Name =~ /[+--]/"): "-- and ~~ are signs by themselves",
+    asked('"%{Filter-Id}-" == "-"'): "[text-numbers]",
     replied('Tunnel-Private-Group-Id:1 := ""'): "[empty-tagged]",
     replied("Framed-IPv6-Prefix -= 2001:db8::/32", "request"): "[short-prefix]",
     replied('Class := "%{User-Name}"'): "[escaped-octets]",
@@ -403,6 +410,16 @@ UNTOLD = [
     replied("Framed-IPv6-Prefix := 2001:db8::/32"),
     replied("Login-IPv6-Host := ::10.1.2.3"),
 ]
+# Statements that are kept, and the warnings of policies that the report has of them.
+WARNED_OF: Dict[str, str] = {
+    asked('&Group == "staff"'): "module-comparison",
+    asked('"%{Prefix}" != "x"'): "module-comparison",
+    "switch &Group {\ncase staff {\nreject\n}\n}\n": "module-comparison",
+    asked('&Virtual-Server == "default"'): "virtual-attribute",
+    asked("&User-Name == Virtual-Server"): "virtual-attribute",
+    replied('Filter-Id := "%{Virtual-Server}"', "control"): "virtual-attribute",
+    asked("&User-Name && &User-Name == &Group"): "",
+}
 # A statement that is refused whole sets no tag for the lines behind it.
 TAGGED = """if (&User-Name) {
 	update reply {
@@ -448,6 +465,15 @@ def check_told(subject: Subject, report: Report) -> None:
             is_kept = lines and "left out" not in "".join(lines)
             title = f"told of {statement!r}" if wanted else f"nothing told of {statement!r}"
             report.check(title, [] if is_right and is_kept else [f"{lines}, {said}"])
+
+
+def check_warned_of(subject: Subject, report: Report) -> None:
+    for statement, wanted in WARNED_OF.items():
+        with new_folder() as folder:
+            lines, said = import_of(subject, folder, statement)
+            told = re.findall(r": kept, with .*\[([a-z-]+)\]: ", said)
+            is_right = told == ([wanted] if wanted else []) and lines and "left out" not in "".join(lines)
+            report.check(f"{wanted or 'nothing'} told of {statement!r}", [] if is_right else [f"{lines}, {said}"])
 
 
 def check_taken_back(subject: Subject, report: Report) -> None:
@@ -564,6 +590,7 @@ def check(subject: Subject, report: Report) -> None:
     check_older_name(subject, report)
     check_meant(subject, report)
     check_told(subject, report)
+    check_warned_of(subject, report)
     check_taken_back(subject, report)
 
 

@@ -57,6 +57,7 @@ DIFFERENT = [
     Row(put("Tunnel-Preference:2 := &request:Tunnel-Preference"),
         ["Tunnel-Preference:2 = 13"], ["Tunnel-Preference:0 = 671088653"]),
     Row(told_if("&Tunnel-Preference:0"), [TOLD], []),
+    Row("update request {\nTunnel-Preference:0 !* ANY\n}\n" + told_if("&Tunnel-Preference"), [], [TOLD]),
     Row(put("PMIP6-Home-IPv4-HoA := 0x00080a000000"),
         ["PMIP6-Home-IPv4-HoA = 10.0.0.0/32"], ["PMIP6-Home-IPv4-HoA = 10.0.0.0/8"]),
     Row(told_if("&Framed-IPv6-Prefix == 0x002020010db8"), [], [TOLD]),
@@ -66,9 +67,18 @@ DIFFERENT = [
         [r'Reply-Message = "a\\%{Class}"'], [r'Reply-Message = "a\\0x6162"']),
     Row('update request {\nFilter-Id := "bob"\n}\n' + told_if("&Filter-Id == 0x626f62"), [TOLD], []),
     Row(told_if('&Filter-Id == "bob"') + told_if("&Module-Failure-Message"), [TOLD], []),
+    Row('update request {\nFilter-Id := "a\\000b"\n}\n' + told_if("&Filter-Id =~ /^(.*)b/") + put('Filter-Id := "<%{1}>"'),
+        [TOLD, 'Filter-Id = "<a>"'], [TOLD, r'Filter-Id = "<a\000>"']),
+    Row(put("MIP6-Feature-Vector := 0x10"), ["MIP6-Feature-Vector = 0"], ["MIP6-Feature-Vector = 16"]),
+    Row("update request {\nMIP6-Feature-Vector := 16\n}\n" + told_if("&MIP6-Feature-Vector == 0x10"), [], [TOLD]),
 ]
-# A prefix in fewer octets is the whole one in a condition, though not in an update.
-ALIKE = [Row(told_if("&Framed-IPv6-Prefix == 2001:db8::/32"), [TOLD], [TOLD])]
+# A prefix in fewer octets is the whole one in a condition, though not in an update; a number without a tag is removed
+# whole.
+ALIKE = [
+    Row(told_if("&Framed-IPv6-Prefix == 2001:db8::/32"), [TOLD], [TOLD]),
+    Row("update request {\nTunnel-Preference -= 0x2800000d\n}\n" + told_if("&Tunnel-Preference"), [], []),
+    Row("update request {\nTunnel-Preference -= 0x0000000d\n}\n" + told_if("&Tunnel-Preference"), [TOLD], [TOLD]),
+]
 # Request lines, and how `run` prints them; and first lines, and whether they choose the profile.
 READ = {
     "Tunnel-Type:01 = VLAN": "Tunnel-Type:1 = VLAN",

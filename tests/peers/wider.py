@@ -58,7 +58,8 @@ UPDATES = [
     ["NAS-IPv6-Address := &request:NAS-IPv6-Address", 'Login-IPv6-Host := "%{request:NAS-IPv6-Address}"'],
 ]
 # What the repository's dictionaries lack.
-DICTIONARY = """ATTRIBUTE PMIP6-Home-IPv4-HoA 155 ipv4prefix
+DICTIONARY = """ATTRIBUTE MIP6-Feature-Vector 124 integer64
+ATTRIBUTE PMIP6-Home-IPv4-HoA 155 ipv4prefix
 ATTRIBUTE Module-Failure-Message 1076 string
 VALUE Tunnel-Type GRE 10
 VALUE Tunnel-Medium-Type IPv4 1
