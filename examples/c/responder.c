@@ -1,7 +1,7 @@
 /* A RADIUS responder on loopback: each packet that comes is answered by a policy.
  * usage: responder PORT SECRET-FILE POLICY DICTIONARY..
- * PORT 0 takes a free port. The secret is the first line of its file, so that no other user of the machine sees it among
- * the words of the command. The port is printed first, and then a line for each packet. */
+ * PORT 0 takes a free port. The secret is the first line of its file: among the words of the command other users of the
+ * machine could see it. The port is printed first, and then a line for each packet. */
 #include "radpolicy.h"
 
 #include <arpa/inet.h>

@@ -8,7 +8,12 @@ BEGIN {
     name[11] = "Access-Challenge"
     ends = " Id 0 from 127.0.0.1:0 to 127.0.0.1:0 length 0"
 }
-/ Virtual server .* received request$/ { request = $1 " Received Access-Request" ends; reply = ""; in_request = 1; next }
+/ Virtual server .* received request$/ {
+    request = $1 " Received Access-Request" ends
+    reply = ""
+    in_request = 1
+    next
+}
 / Virtual server sending reply$/ { reply = ""; in_reply = 1; next }
 / Got tunneled / && in_reply {
     answer = $NF in name ? name[$NF] : $NF
