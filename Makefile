@@ -8,7 +8,7 @@
 # make documents  the documents' links and commands, the examples in doc comments, the completions and the manual
 #                 pages, with the built program
 # make install    puts what programs.txt lists, programs with their manual pages and completions and the library for C,
-#                 the dictionaries, the examples and the documents below PREFIX
+#                 the dictionaries, the examples and the users' documents below PREFIX
 # make uninstall  removes them
 # make package    makes Debian packages and a tarball of the same files in out/
 

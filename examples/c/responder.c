@@ -1,6 +1,7 @@
 /* A RADIUS responder on loopback: each packet that comes is answered by a policy.
- * usage: responder PORT SECRET POLICY DICTIONARY..
- * PORT 0 takes a free port. The port is printed first, and then a line for each packet. */
+ * usage: responder PORT SECRET-FILE POLICY DICTIONARY..
+ * PORT 0 takes a free port. The secret is the first line of its file: among the words of the command other users of the
+ * machine could see it. The port is printed first, and then a line for each packet. */
 #include "radpolicy.h"
 
 #include <arpa/inet.h>
@@ -96,16 +97,26 @@ static void answer(struct radpolicy_policy *policy, struct radpolicy_slice secre
     fflush(stdout);
 }
 
+static struct radpolicy_slice first_line(const char *path) {
+    struct radpolicy_slice text = whole(path);
+    const uint8_t *end = text.length ? memchr(text.at, '\n', text.length) : NULL;
+    size_t length = end ? (size_t)(end - text.at) : text.length;
+    if (length && text.at[length - 1] == '\r')
+        length--;
+    return (struct radpolicy_slice){text.at, length};
+}
+
 int main(int count, char **words) {
     if (count < 5 || count > 4 + MAX_FILES) {
-        fprintf(stderr, "usage: responder PORT SECRET POLICY DICTIONARY..\n");
-        return 2;
+        bool asked = count == 2 && strcmp(words[1], "--help") == 0;
+        fprintf(asked ? stdout : stderr, "usage: responder PORT SECRET-FILE POLICY DICTIONARY..\n");
+        return asked ? 0 : 2;
     }
     struct radpolicy_policy policy = RADPOLICY_CLOSED;
     uint8_t status = open_policy(&policy, words[3], words + 4, count - 4);
     if (status != RADPOLICY_DONE)
         return status;
-    struct radpolicy_slice secret = {(const uint8_t *)words[2], strlen(words[2])};
+    struct radpolicy_slice secret = first_line(words[2]);
     for (int fd = bound_socket(words[1]);;)
         answer(&policy, secret, fd);
 }

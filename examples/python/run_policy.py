@@ -1,6 +1,7 @@
 #!/usr/bin/env python3
 """Runs a policy on a packet in hexadecimal digits (standard input), by the library, and prints the report.
-usage: run_policy.py LIBRADPOLICY.SO SECRET POLICY DICTIONARY.. <PACKET"""
+usage: run_policy.py LIBRADPOLICY.SO SECRET-FILE POLICY DICTIONARY.. <PACKET
+The secret is the first line of its file."""
 import ctypes
 import sys
 from pathlib import Path
@@ -40,8 +41,8 @@ def load(library: str) -> ctypes.CDLL:
     return radpolicy
 
 
-def main(library: str, secret: str, policy_path: str, *paths: str) -> int:
-    radpolicy = load(library)
+def main(library: str, secret_path: str, policy_path: str, *paths: str) -> int:
+    radpolicy, secret = load(library), Path(secret_path).read_bytes().split(b"\n")[0].rstrip(b"\r")
     files = (File * len(paths))(*(File(octets(Path(p).name.encode()), octets(Path(p).read_bytes())) for p in paths))
     text, policy, told = Path(policy_path).read_bytes(), Policy(), ctypes.c_size_t()
     packet, report = ctypes.create_string_buffer(4096), ctypes.create_string_buffer(1 << 20)
@@ -50,7 +51,7 @@ def main(library: str, secret: str, policy_path: str, *paths: str) -> int:
                                       ctypes.byref(told))
     if status == 0:
         received = bytes.fromhex(sys.stdin.read())
-        request = Request(octets(received), octets(secret.encode()), octets(b""), octets(b""), has_secret=True)
+        request = Request(octets(received), octets(secret), octets(b""), octets(b""), has_secret=True)
         outcome = Outcome()
         status = radpolicy.radpolicy_run(ctypes.byref(policy), ctypes.byref(request), ctypes.byref(outcome), packet,
                                          ctypes.c_size_t(len(packet)), report, ctypes.c_size_t(len(report)))
@@ -61,4 +62,7 @@ def main(library: str, secret: str, policy_path: str, *paths: str) -> int:
 
 
 if __name__ == "__main__":
-    sys.exit(main(*sys.argv[1:]))
+    if "--help" in sys.argv[1:]:
+        print(__doc__)
+        sys.exit(0)
+    sys.exit(main(*sys.argv[1:]) if len(sys.argv) > 4 else __doc__)

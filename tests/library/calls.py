@@ -181,7 +181,7 @@ def check_example(subject: Subject, report: Report, made: Path) -> None:
     """The example in Python as a program."""
     folder = subject.root / "examples" / "reply"
     words = [sys.executable, subject.root / "examples" / "python" / "run_policy.py", made,
-             (folder / "secret").read_text().split("\n")[0], folder / "policy",
+             folder / "secret", folder / "policy",
              *sorted((subject.root / "dictionaries").glob("dictionary*"))]
     ended = run(words, folder, (folder / "packet").read_bytes())
     same = ended.output == (folder / "output").read_bytes()
@@ -195,7 +195,9 @@ def check_responder(subject: Subject, report: Report, folder: Path) -> None:
         return
     made = program(subject, folder, "examples/c/responder.c")
     (folder / "policy").write_text(POLICY)
-    words = [made, "0", SECRET, folder / "policy", *sorted((subject.root / "dictionaries").glob("dictionary*"))]
+    (folder / "secret").write_text(f"{SECRET}\n")
+    words = [made, "0", folder / "secret", folder / "policy",
+             *sorted((subject.root / "dictionaries").glob("dictionary*"))]
     log = folder / "memcheck"
     if watched.has_valgrind(report, "the example in C"):
         words = ["valgrind", "--quiet", f"--log-file={log}", *words]
