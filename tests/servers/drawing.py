@@ -3,8 +3,8 @@ import random
 from typing import Dict, List, Sequence
 
 from servers.trees import (
-    ADDRESS, NUMBER, OCTETS, STRING, Asked, Attribute, Block, Branch, Call, Case, Compare, Condition, Group, If, Joined,
-    Line, Literal, Not, Own, Part, Present, Return, Statement, Switch, Text, Update, Value,
+    ADDRESS, ETHERNET, NUMBER, OCTETS, SIGNED, STRING, Asked, Attribute, Block, Branch, Call, Case, Compare, Condition,
+    Group, If, Joined, Line, Literal, Not, Own, Part, Present, Return, Statement, Switch, Text, Update, Value,
 )
 
 MOST_DEPTH = 4
@@ -14,18 +14,24 @@ NAMES: Dict[str, Sequence[str]] = {
     OCTETS: ("Class", "Tmp-Octets-0"),
     NUMBER: ("NAS-Port", "Session-Timeout", "Service-Type", "Tmp-Integer-0"),
     ADDRESS: ("Framed-IP-Address", "NAS-IP-Address", "Tmp-IP-Address-0"),
+    SIGNED: ("Tmp-Cast-Signed",),
+    ETHERNET: ("Tmp-Cast-Ethernet",),
 }
 VALUES: Dict[str, Sequence[str]] = {
     STRING: ("bob", "alice", "x", "7", "gold@example.org", "0x41", "0x4", "Framed-User", ""),
     OCTETS: ("0x01", "0x0102", "0x626f62", "0x3031"),
     NUMBER: ("0", "1", "2", "7", "60"),
     ADDRESS: ("10.0.0.1", "10.0.0.2", "192.168.1.16", "0.0.0.7"),
+    SIGNED: ("-300", "-1", "0", "7"),
+    ETHERNET: ("00:00:00:00:00:07", "0a:00:00:00:00:01", "ff:00:00:00:00:01"),
 }
 # What a client may send.
 SENT = {
     STRING: ("User-Name", "Filter-Id", "Calling-Station-Id"), OCTETS: ("Class",), NUMBER: ("NAS-Port", "Service-Type"),
     ADDRESS: ("Framed-IP-Address", "NAS-IP-Address"),
 }
+# Of these types no texts are read.
+WITHOUT_TEXTS = (SIGNED, ETHERNET)
 PIECES = ("a", "b", "1", "x@y", ".")
 OPERATORS = (":=", ":=", ":=", "=", "+=", "+=", "^=", "-=", "==", "!*")
 RELATIONS = ("==", "==", "!=", "<", "<=", ">", ">=")
@@ -44,10 +50,19 @@ class Drawing:
     # ---- attributes and values
 
     def kind(self) -> str:
+        share = self.chance.random()
+        if share < 0.05:
+            return self.chance.choice(WITHOUT_TEXTS)
         return self.chance.choice((STRING, STRING, STRING, OCTETS, NUMBER, NUMBER, ADDRESS))
 
     def attribute(self, kind: str) -> Attribute:
         return Attribute(self.chance.choice(LISTS), self.chance.choice(NAMES[kind]), kind)
+
+    def seen(self, kind: str) -> Attribute:
+        """An attribute that is there more often: it may have been sent."""
+        if kind in SENT and self.chance.random() < 0.5:
+            return Attribute("request", self.chance.choice(SENT[kind]), kind)
+        return self.attribute(kind)
 
     def literal(self, attribute: Attribute) -> Literal:
         if attribute.name == "Service-Type" and self.chance.random() < 0.5:
@@ -75,24 +90,38 @@ class Drawing:
         share = self.chance.random()
         if share < 0.45:
             return self.literal(attribute)
-        return self.attribute(attribute.kind) if share < 0.75 else self.text(attribute.kind)
+        is_instance = share < 0.75 or attribute.kind in WITHOUT_TEXTS
+        return self.attribute(attribute.kind) if is_instance else self.text(attribute.kind)
 
     # ---- conditions
 
+    def asked(self) -> Asked:
+        return Asked(self.chance.choice((*GOING_ON, *GOING_ON, *CODES)))
+
+    def prefixes(self) -> Compare:
+        """Two addresses that a client may have sent, one of them as a text."""
+        names = [self.chance.choice(SENT[ADDRESS]) for _ in range(2)]
+        if names[0] == names[1]:
+            names = [*SENT[ADDRESS]]
+        first, other = (Attribute("request", name, ADDRESS) for name in names)
+        return Compare(first, self.chance.choice(("==", "!=", "<", "<=", "<=", ">", ">=")), Text([other], ADDRESS))
+
     def question(self) -> Condition:
         share = self.chance.random()
-        if share < 0.2:
-            return Asked(self.chance.choice(CODES))
-        attribute = self.attribute(self.kind())
-        if share < 0.45:
-            return Present(attribute)
+        if share < 0.1:
+            return self.prefixes()
+        if share < 0.25:
+            return self.asked()
+        if share < 0.4:
+            return Present(self.attribute(self.kind()))
+        attribute = self.seen(self.kind())
         return Compare(attribute, self.chance.choice(RELATIONS), self.value(attribute))
 
     def condition(self, depth: int) -> Condition:
         share = self.chance.random()
-        if depth == 0 or share < 0.4:
+        if depth == 0 or share < 0.3:
             return self.question()
-        if share < 0.55:
+        if share < 0.5:
             inner = self.condition(depth - 1)
             return self.question() if isinstance(inner, Not) else Not(inner)
         sign = self.chance.choice(("&&", "||"))
@@ -107,7 +136,17 @@ class Drawing:
             operator = ":="
         return Line(attribute, operator, None if operator == "!*" else self.value(attribute))
 
+    def filtering(self) -> Update:
+        """A list with two instances more is sorted, and some are removed, these or others."""
+        name, first, other = self.chance.choice(LISTS[1:]), self.kind(), self.kind()
+        added = Attribute(name, self.chance.choice(NAMES[first]), first)
+        kept = added if self.chance.random() < 0.5 else Attribute(name, self.chance.choice(NAMES[other]), other)
+        lines = [Line(added, "+=", self.value(added)) for _ in range(2)]
+        return Update([*lines, Line(kept, "==", self.value(kept))])
+
     def update(self) -> Update:
+        if self.chance.random() < 0.1:
+            return self.filtering()
         return Update([self.line() for _ in range(self.chance.randrange(1, 5))])
 
     def actions(self, share: float) -> List[Own]:
@@ -115,15 +154,28 @@ class Drawing:
         if self.chance.random() > share:
             return []
         codes = self.chance.sample(CODES, self.chance.randrange(1, 4))
-        return [Own(code, self.chance.choice(("return", "reject", "1", "2", "3", "4", "5", "9"))) for code in codes]
+        return [Own(code, self.action()) for code in codes]
+
+    def action(self) -> str:
+        return self.chance.choice(("return", "reject", "reject", "1", "2", "2", "3", "3", "4", "5", "9"))
+
+    def call(self) -> Call:
+        """With actions there is mostly one for its own code."""
+        code = self.chance.choice((*GOING_ON, *GOING_ON, *CODES))
+        if self.chance.random() < 0.3:
+            return Call(code, [Own(code, self.action())])
+        return Call(code, self.actions(0.1))
 
     def block(self, depth: int) -> Block:
         statements = [self.statement(depth) for _ in range(self.chance.choice((0, 1, 1, 2, 3)))]
         return Block(self.actions(0.15), statements)
 
+    def branch(self, depth: int) -> Branch:
+        condition = self.asked() if self.chance.random() < 0.15 else self.condition(3)
+        return Branch(condition, self.block(depth))
+
     def choice(self, depth: int) -> If:
-        branches = [
-            Branch(self.condition(3), self.block(depth - 1)) for _ in range(self.chance.choice((1, 1, 1, 2, 3)))]
+        branches = [self.branch(depth - 1) for _ in range(self.chance.choice((1, 1, 1, 2, 3)))]
         return If(branches, self.block(depth - 1) if self.chance.random() < 0.4 else None)
 
     def group(self, depth: int) -> Group:
@@ -132,8 +184,24 @@ class Drawing:
         self.called += 1
         return Group(f"{self.name}_{self.called}", self.block(depth - 1))
 
+    def asking(self, depth: int) -> Group:
+        """A call that lets its block go on, mostly with another code before it, and what asks for that code."""
+        code = self.chance.choice(CODES)
+        before = [Call(self.chance.choice(GOING_ON), [])] if self.chance.random() < 0.7 else []
+        call = Call(code, [Own(code, self.chance.choice(("1", "2", "4")))])
+        asked = Branch(self.chance.choice((Asked(code), self.asked())), self.block(depth - 2))
+        return Group("", Block([], [*before, call, If([asked], None)]))
+
+    def comparing(self, depth: int) -> Group:
+        """An attribute of a type of which none is sent, and a comparison of it."""
+        kind = self.chance.choice(WITHOUT_TEXTS)
+        attribute = self.attribute(kind)
+        added = Update([Line(attribute, ":=", self.literal(attribute))])
+        asked = Compare(attribute, self.chance.choice(RELATIONS), self.literal(attribute))
+        return Group("", Block([], [added, If([Branch(asked, self.block(depth - 2))], None)]))
+
     def switch(self, depth: int) -> Switch:
-        attribute = self.attribute(self.kind())
+        attribute = self.seen(self.kind())
         values = [self.literal(attribute) for _ in range(self.chance.randrange(1, 4))]
         cases = [Case(value, self.block(depth - 1)) for value in values if value.text]
         if not cases or self.chance.random() < 0.6:
@@ -142,10 +210,12 @@ class Drawing:
 
     def statement(self, depth: int) -> Statement:
         share = self.chance.random()
+        if share < 0.08 and depth > 1:
+            return self.comparing(depth) if share < 0.02 else self.asking(depth)
         if share < 0.45 and depth:
             return self.chance.choice((self.choice, self.choice, self.group, self.switch))(depth)
         if share < 0.6:
-            return Call(self.chance.choice((*GOING_ON, *GOING_ON, *CODES)), self.actions(0.25))
+            return self.call()
         if share < 0.62:
             return Return()
         return self.update()

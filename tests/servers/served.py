@@ -1,32 +1,22 @@
-"""Policies at random in a FreeRADIUS server on loopback and as `server_unlang` defines what a server does: after each
-the three lists and the code are the same, and so are the packet and the attributes of the reply."""
+"""Policies at random in a FreeRADIUS server on loopback, and what it makes of their requests."""
 import hashlib
 import os
 import re
-import shutil
 import socket
 import struct
 import time
 from pathlib import Path
 from typing import Dict, List, NamedTuple, Sequence, Tuple
 
-from common.program import run
-from common.report import Report
-from common.subject import Subject, new_folder
-from imports.served import free_ports
-from library.serving import SECONDS, SERVER, server
+from library.serving import SECONDS
 from servers.drawing import NAMES, Drawing
 from servers.trees import (
-    ADDRESS, NUMBER, OCTETS, STRING, Literal, Statement, digits, policies_in_words, statements_in_words,
-    statements_lines,
+    ADDRESS, NUMBER, OCTETS, STRING, Literal, Statement, policies_in_words, statements_in_words,
 )
 
 DICTIONARIES = Path("/usr/share/freeradius")
 SEED = 20_261_130
-POLICIES, MANY = 300, 20_000
 REQUESTS = 10
-# So many are loaded at a time.
-LOADED = 100
 SECRET = b"testing123"
 # Of these the server tells where a policy was left, and which of the requests it was.
 CASE, PLACE = "NAS-Identifier", "NAS-Port-Id"
@@ -141,13 +131,32 @@ class Left(NamedTuple):
     control: List[str]
 
 
+class Told(NamedTuple):
+    """What there was before a policy, and what it left."""
+
+    before: Left
+    after: Left
+
+
+# The names and values of a request.
+Sent = Sequence[Tuple[str, Literal]]
+
+
 class Case(NamedTuple):
-    """A policy, the section that it is run in, and the names and values of its requests."""
+    """A policy, the section that it is run in, and its requests."""
 
     name: str
     section: str
     policy: List[Statement]
-    requests: List[List[Tuple[str, Literal]]]
+    requests: List[Sent]
+
+
+class Asked(NamedTuple):
+    """A request of a policy, and its place among those."""
+
+    case: Case
+    place: int
+    sent: Sent
 
 
 def drawn(number: int) -> Case:
@@ -252,6 +261,8 @@ def in_words(services: Dict[int, str], name: str, octets: bytes) -> str:
 
 
 def reply_in_words(services: Dict[int, str], reply: bytes) -> List[str]:
+    if not reply:
+        return ["nothing"]
     names = {number: name for name, number in NUMBERS.items()}
     words, at = ["accepted" if reply[0] == 2 else "rejected"], 20
     while at < len(reply):
@@ -263,37 +274,34 @@ def reply_in_words(services: Dict[int, str], reply: bytes) -> List[str]:
     return words
 
 
-def replies(ports: Sequence[int], folder: Path, asked: Sequence[Tuple[Case, int, Sequence[Tuple[str, Literal]]]],
-            wanted: int) -> Dict[int, bytes]:
+def full(asked: Asked) -> Sent:
+    """A request with what tells it from others."""
+    return [*asked.sent, (CASE, Literal(asked.case.name, STRING)), (PLACE, Literal(str(asked.place), STRING))]
+
+
+def replies(ports: Sequence[int], folder: Path, asked: Sequence[Asked], wanted: int) -> Dict[int, bytes]:
     """The replies to requests with the identifiers 0, 1, .., once the server has told so many lines in all."""
     found: Dict[int, bytes] = {}
     with socket.socket(socket.AF_INET, socket.SOCK_DGRAM) as client:
         client.bind(("127.0.0.1", 0))
         client.settimeout(0.2)
-        for identifier, (case, place, sent) in enumerate(asked):
-            port = ports[0] if case.section in ACCESS else ports[1]
-            client.sendto(packet(identifier, case.section, full(case, place, sent)), ("127.0.0.1", port))
+        for identifier, it in enumerate(asked):
+            port = ports[0] if it.case.section in ACCESS else ports[1]
+            client.sendto(packet(identifier, it.case.section, full(it)), ("127.0.0.1", port))
         end = time.monotonic() + SECONDS
-        answered = sum(case.section == "authorize" for case, _, _ in asked)
+        answered = sum(it.case.section == "authorize" for it in asked)
         while time.monotonic() < end and (told_lines(folder) < wanted or len(found) < answered):
             try:
                 reply, _ = client.recvfrom(4096)
             except socket.timeout:
                 continue
-            if asked[reply[1]][0].section == "authorize":
+            if asked[reply[1]].case.section == "authorize":
                 found[reply[1]] = reply
     return found
 
 
 def told_lines(folder: Path) -> int:
     return sum(file.read_bytes().count(b"\n") for file in folder.glob("told.*"))
-
-
-class Told(NamedTuple):
-    """What there was before a policy, and what it left."""
-
-    before: Left
-    after: Left
 
 
 def told(folder: Path, names: Sequence[str]) -> Dict[Tuple[str, str], Told]:
@@ -305,107 +313,3 @@ def told(folder: Path, names: Sequence[str]) -> Dict[Tuple[str, str], Told]:
         pairs = [[f"{name} = {value}" for name, value in PAIR.findall(text) if name in names] for text in lists]
         found.setdefault((case, place), {})[code == "before"] = Left(code, *pairs)
     return {key: Told(both[True], both[False]) for key, both in found.items() if len(both) == 2}
-
-
-# ---- the definition
-
-def given_lines(before: Left) -> List[str]:
-    """The lists with which a policy begins, as lines for the program."""
-    lines = ["request"]
-    for name in ("request", "reply", "control"):
-        for pair in getattr(before, name):
-            attribute, text = pair.split(" = ", 1)
-            lines.append(f"pair {name} {attribute} {digits(text.strip(chr(34)))}")
-    return [*lines, "run"]
-
-
-def computed(
-    subject: Subject, cases: Sequence[Case], folder: Path, known: Dictionaries, theirs: Dict[Tuple[str, str], Told],
-) -> List[Left]:
-    (folder / "attributes").write_text("".join(" ".join(words) + "\n" for words in known.lines))
-    lines = ["order " + " ".join(known.order)]
-    for case in cases:
-        lines += [f"policy {case.section}", *statements_lines(case.policy)]
-        for place in range(len(case.requests)):
-            lines += given_lines(theirs[case.name, str(place)].before)
-    ended = run([subject.driver("drive_server"), "attributes"], folder, "\n".join(lines).encode())
-    if ended.status:
-        raise ValueError(f"drive_server ends with {ended.status}: {ended.errors.decode()}")
-    return [left_of(answer) for answer in ended.output.decode().split("end\n")[:-1]]
-
-
-def left_of(answer: str) -> Left:
-    head, *lines = answer.splitlines()
-    pairs: Dict[str, List[str]] = {"request": [], "reply": [], "control": []}
-    for line in lines:
-        name, _, pair = line.partition(" ")
-        pairs[name].append(pair)
-    return Left(head.split(" ", 1)[1], **pairs)
-
-
-def full(case: Case, place: int, sent: Sequence[Tuple[str, Literal]]) -> List[Tuple[str, Literal]]:
-    """A request with what tells it from others."""
-    return [*sent, (CASE, Literal(case.name, STRING)), (PLACE, Literal(str(place), STRING))]
-
-
-# ---- both
-
-def reply_wanted(left: Left) -> List[str]:
-    """What is sent of a reply list: no attribute that is the server's own, and none without octets."""
-    sent = [pair for pair in left.reply if pair.split(" ")[0] in NUMBERS]
-    sent = [pair for pair in sent if pair.split(" = ")[1] not in ('""', "0x")]
-    return ["accepted" if left.code.split(" ")[0] in ACCEPTED else "rejected", *sent]
-
-
-def differences(
-    subject: Subject, cases: Sequence[Case], folder: Path, ports: Sequence[int], known: Dictionaries,
-) -> List[str]:
-    asked = [(case, place, sent) for case in cases for place, sent in enumerate(case.requests)]
-    answers: Dict[int, bytes] = {}
-    for first in range(0, len(asked), 200):
-        some = asked[first:first + 200]
-        got = replies(ports, folder, some, 2 * (first + len(some)))
-        answers.update({first + at: reply for at, reply in got.items()})
-    theirs = told(folder, known.order)
-    silent = [case.name for case, place, _ in asked if (case.name, str(place)) not in theirs]
-    if silent:
-        return [f"the server tells nothing of {silent[0]}, and of {len(silent) - 1} others"]
-    faults = []
-    for at, ((case, place, sent), ours) in enumerate(zip(asked, computed(subject, cases, folder, known, theirs))):
-        said = theirs[case.name, str(place)].after
-        heard = reply_in_words(known.services, answers[at]) if case.section == "authorize" else reply_wanted(ours)
-        if said != ours._replace(code=ours.code.split(" ")[0]) or heard != reply_wanted(ours):
-            shown = ", ".join(f"{name} = {literal.text}" for name, literal in sent)
-            faults.append(
-                f"{case.name} in {case.section}\n{policies_in_words(case.policy)}\n"
-                f"{statements_in_words(case.policy)}{shown}\nthe server: {said} {heard}\nthe program: {ours}")
-    return faults
-
-
-def compare(subject: Subject, report: Report, numbers: Sequence[int], known: Dictionaries) -> None:
-    cases = [drawn(number) for number in numbers]
-    with new_folder() as folder:
-        ports = free_ports(2)
-        configure(folder, cases, ports)
-        with server(folder, "UTC") as is_ready:
-            faults = [(folder / "log").read_text(errors="replace")[-2000:]]
-            if is_ready:
-                faults = differences(subject, cases, folder, ports, known)
-    report.check(f"policies {numbers[0]} to {numbers[-1]} beside a server", faults)
-
-
-def check_so_many(subject: Subject, report: Report, count: int) -> None:
-    if shutil.which(SERVER) is None or not DICTIONARIES.is_dir():
-        report.say(f"what a server does, beside one: left out, there is no {SERVER} or no {DICTIONARIES}")
-        return
-    known = dictionaries()
-    for first in range(0, count, LOADED):
-        compare(subject, report, range(first, min(first + LOADED, count)), known)
-
-
-def check(subject: Subject, report: Report) -> None:
-    check_so_many(subject, report, POLICIES)
-
-
-def check_many(subject: Subject, report: Report) -> None:
-    check_so_many(subject, report, MANY)

@@ -2,7 +2,7 @@
 from dataclasses import dataclass
 from typing import List, Optional, Sequence, Union
 
-STRING, OCTETS, NUMBER, ADDRESS = "string", "octets", "number", "address"
+STRING, OCTETS, NUMBER, ADDRESS, SIGNED, ETHERNET = "string", "octets", "number", "address", "signed", "ethernet"
 
 
 @dataclass(frozen=True)
