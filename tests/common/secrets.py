@@ -180,11 +180,12 @@ CONDITIONS = [
     '&{s} =~ /(.*)/ && "%{{1}}" == "{v}"', '&{s} =~ /(.)(.*)/ && "%{{2}}" =~ /{v}/', '"%{{0}}" == \'{v}\'',
     '&{s} =~ /./ && "{v}" == "%{{0}}"', '"%{{{s}}}" =~ /(.*)/ && "a%{{1}}" != "a{v}"', '\'{v}\' == "%{{9}}b"',
     '&Tmp-String-0 == "{v}"', '"%{{Tmp-String-0}}" == "{v}"', "&Tmp-String-0 =~ /{v}/",
-    '&User-Name == "psk={v}"', "'shell:psk={v}' != \"%{{User-Name}}\"",
+    '&User-Name == "psk={v}"', "'shell:psk={v}' != \"%{{User-Name}}\"", '&User-Name == "\\160sk\\075{v}"',
 ]
 OCTETS = [
     "&{s} == 0x{x}", "{s} != 0x{x}", '&{s} == "0x{x}"', "&{s} == '0x{x}'", '"%{{{s}}}" == "0x{x}"',
-    '"0x{x}" == "%{{{s}}}"', '"%{{{s}}}" =~ /{x}/', "&{s} =~ /{x}/", '&Class == "0x{x}%{{{s}}}"',
+    '"0x{x}" == "%{{{s}}}"', '"%{{{s}}}" =~ /{x}/', "&{s} =~ /{x}/", '&Class == "0x{x}%{{{s}}}"', "&Class == 0x{k}",
+    '"%{{Class}}" == "0x{k}"', '"%{{Class}}" =~ /^0x{k}/',
 ]
 # Update lines that give a secret attribute, or another one together with it, a secret.
 UPDATES = [
@@ -192,14 +193,23 @@ UPDATES = [
     '{s} == "{v}"', '{s} !* "{v}"', "{s} !* {v}", 'control:{s} := "{v}"', '&request:{s} += \'{v}\'', '{s} :=\n\t"{v}"',
     '{s}\n:= # a comment\n{v}', '{s} := "{v}%{{User-Name}}"', '{s} := "%{{User-Name}}{v}"', '{s} := "\\"{v}"',
     'Tmp-String-1 := "{v}%{{{s}}}"', 'Tmp-String-1 := "%{{control:{s}}}{v}"', 'Tmp-String-1 := "{v}%{{1}}"',
-    'User-Name := "psk={v}"', "Filter-Id += 'shell:tunnel-password = {v}%{{User-Name}}'",
+    'User-Name := "psk={v}"', 'User-Name := "a:\\160\\163\\153={v}"', "Filter-Id += 'shell:tunnel-password = {v}%{{User-Name}}'",
     'Tmp-String-0 := "{v}"', '{s} := "{v}" User-Name := "shown"', 'User-Name := "shown" {s} := {v} User-Name := shown',
 ]
 OCTETS_UPDATES = ["{s} := 0x{x}", '{s} += "0x{x}"', "{s} !* 0x{x}", "control:{s} -= '0x{x}'",
-                  'Tmp-Octets-0 := "0x{x}%{{{s}}}"']
+                  'Tmp-Octets-0 := "0x{x}%{{{s}}}"', "Tmp-Octets-0 := 0x{k}", 'Class += "0x{k}"']
 # What a policy has beside them, so that there are copies and captures of each secret attribute.
 COPIES = ["Tmp-String-0 := &{s}", 'Tmp-String-0 := "%{{{s}}}"', 'Tmp-String-0 += "a %{{{s}}}"']
 OCTETS_COPIES = ["Tmp-Octets-0 := &{s}", 'Tmp-String-0 := "%{{{s}}}"']
+
+
+def filled(rng: Random, template: str, attribute: Attribute) -> Tuple[str, str]:
+    """A template with the attribute's name, and a new secret, if the template has one: as it is, in hexadecimal digits, or
+    with a key before it in such digits."""
+    secret = new_secret(rng)
+    digits, keyed = secret.encode().hex(), f"psk={secret}".encode().hex()
+    has_secret = any(it in template for it in ("{v}", "{x}", "{k}"))
+    return template.format(s=attribute.name, v=secret, x=digits, k=keyed), secret if has_secret else ""
 
 
 @dataclass
@@ -212,10 +222,8 @@ class Policy:
 
     def fill(self, rng: Random, template: str, attribute: Attribute) -> str:
         """A template with the attribute's name and a new secret."""
-        secret = new_secret(rng)
-        if "{v}" in template or "{x}" in template:
-            self.secrets.append(secret)
-        text = template.format(s=attribute.name, v=secret, x=secret.encode().hex())
+        text, secret = filled(rng, template, attribute)
+        self.secrets += [secret] if secret else []
         self.shown += len(re.findall(r"\bshown\b(?!\{)", template.replace("shown{v}", "")))
         return text
 

@@ -3,6 +3,9 @@ from typing import Dict, List, NamedTuple
 
 SECRET = "hunter2x9QwZ7"
 DIGITS = SECRET.encode().hex()
+# A text with a secret key, in hexadecimal digits, and its key by escapes.
+SPELLED = f"password={SECRET}".encode().hex()
+ESCAPED = "".join(f"\\{octet:03o}" for octet in b"password")
 DICTIONARY = """ATTRIBUTE User-Name 1 string
 ATTRIBUTE User-Password 2 string encrypt=1
 ATTRIBUTE Reply-Message 18 string
@@ -202,6 +205,69 @@ found =; here may be one of == != < <= > >= && || )
         "policy:1: update control { Cleartext-Password := (hidden) Class := &Class }: the request has no Class (P1)\n"),
     Row("a word that stops", RUN, f'if (&User-Password == "{SECRET}" || &User-Name) {{ reject }} # {SECRET}\n',
         "policy:1: if (&User-Password == (hidden) || &User-Name) { reject }: the run was stopped here\n"),
+    Row("a digit too many", CHECK, f"update reply {{\n\tClass := 0x{SPELLED}0\n}}\n", """\
+radpolicy: E30 policy:2: not a value
+policy:2:11
+        Class := (hidden)
+                 ^
+found (hidden); a value of Class is 0x and an even number of hexadecimal digits
+"""),
+    Row("letters behind digits", CHECK, f"update reply {{\n\tClass := \"0x{SPELLED}zz\"\n}}\n", """\
+radpolicy: E30 policy:2: not a value
+policy:2:11
+        Class := (hidden)
+                 ^
+"""),
+    Row("digits without 0x", CHECK, f"update reply {{\n\tClass := {SPELLED} x\n}}\n", """\
+radpolicy: E32 policy:2: unknown attribute
+policy:2:11
+        Class := (hidden)
+                 ^
+found (hidden) after a value
+"""),
+    Row("a digit too few", CHECK, f"update reply {{\n\tClass := x{SPELLED} x\n}}\n", """\
+radpolicy: E32 policy:2: unknown attribute
+policy:2:11
+        Class := (hidden)
+                 ^
+found (hidden) after a value
+"""),
+    Row("digits without a sign before them", CHECK, f"update reply {{\n\tClass x{SPELLED} Reply-Message := 'a'\n}}\n", """\
+radpolicy: E51 policy:2: token does not fit
+policy:2:8
+        Class (hidden)
+              ^
+found (hidden); here may be one of = := += ^= -= == !*
+"""),
+    Row("digits in an open quote", CHECK, f"update reply {{\n\tClass := \"0x{SPELLED}\n}}\n", """\
+radpolicy: E50 policy:2: unreadable token
+policy:2:11
+        Class := (hidden)
+                 ^
+"""),
+    Row("digits behind a sign that is none", CHECK, f"update reply {{\n\tClass[0] := 0x{SPELLED}\n}}\n", """\
+radpolicy: E50 policy:2: unreadable token
+policy:2:7
+        Class(hidden)
+             ^
+"""),
+    Row("a key by escapes in an open quote", CHECK, f'update reply {{\n\tReply-Message := "{ESCAPED}={SECRET}\n}}\n', """\
+radpolicy: E50 policy:2: unreadable token
+policy:2:19
+        Reply-Message := (hidden)
+                         ^
+found (hidden)
+the text has no closing quote on its line
+"""),
+    Row("a key by escapes between other quotes", CHECK, f"update reply {{\n\tReply-Message := 'x\"{ESCAPED}={SECRET}' x\n}}\n", """\
+radpolicy: E32 policy:2: unknown attribute
+policy:2:"""),
+    Row("digits that are no secret", CHECK, "update reply {\n\tClass := 0x6e616d653d6162630\n}\n", """\
+radpolicy: E30 policy:2: not a value
+policy:2:11
+        Class := 0x6e616d653d6162630
+                 ^
+"""),
     Row("a request for a dictionary", "check lines", f'User-Password = "{SECRET}"\n', """\
 radpolicy: E10 lines:1: unreadable line
 lines:1:1

@@ -13,6 +13,7 @@ from common.report import Report
 from common.secrets import Policy, dictionary, each_spelling, leaks, new_policy, request_lines
 from common.subject import Subject, new_folder, on_all
 from common.visible import RAW, raw_faults, write_names
+from help.faulty_copies import policy_with_faults
 from help.helping import environment
 from help.secret_rows import DIGITS, ROWS, SECRET, Row, files_of
 
@@ -107,9 +108,10 @@ def faults_of(subject: Subject, folder: Path, policy: str, request: bytes, secre
 def one_at_random(subject: Subject, folder: Path, number: int) -> List[str]:
     """What is wrong with what is shown of a random policy and request, one of which, both or none can be read."""
     rng = Random(f"{SEED} {number}")
-    policy, request = new_policy(rng), request_lines(rng)
+    has_faults = number % 5 == 4
+    policy, request = policy_with_faults(rng) if has_faults else new_policy(rng), request_lines(rng)
     text, lines = policy.text, request.octets
-    if number % 4:
+    if number % 4 and not has_faults:
         text = broken(rng, text)
     if number % 3 == 0:
         lines = broken(rng, lines.decode("latin-1")).encode("latin-1")

@@ -11,7 +11,7 @@ from common.allowed import end_after
 from common.program import Ended, run
 from common.report import Report
 from common.secrets import CONDITIONS, OCTETS, OCTETS_UPDATES, UPDATES, Attribute, attributes, dictionary, is_text, leaks
-from common.secrets import new_secret
+from common.secrets import filled
 from common.subject import Subject, new_folder, on_all
 from configurations.hostile import written
 from imports.written import OPTIONS
@@ -39,6 +39,28 @@ STATEMENTS = [
     'if ("%{{Tmp-String-0}}" == "{v}%{{tolower:x}}") {{ ok }}',
     "if (&Tmp-String-0 =~ /(?={v})/) {{ ok }}",
     'if ("%{{1}}" == "{v}" && &No-Such) {{ ok }}',
+    'if (&Tmp-String-0[0] == "{v}" && &No-Such) {{ ok }}',
+    'if ("%{{string:Tmp-String-0}}" == "{v}" && &No-Such) {{ ok }}',
+    'if (&{s}[0] == "{v}" && &No-Such) {{ ok }}',
+    'if ("%{{string:control:{s}}}" == "{v}" && &No-Such) {{ ok }}',
+    'if (&Attr-26.40000.1 == "{v}" && &No-Such) {{ ok }}',
+    'update {{ &control:{s}[0] := "{v}" }}',
+    'update {{ &{s}[*] -= {v} }}',
+    'update {{ Vendor-40000-Attr-1 := "{v}" }}',
+    'update {{ No-Such := "psk\\075{v}" }}',
+    'update {{ No-Such := "p\\163k={v}" }}',
+    "update {{ No-Such := 0x{k} }}",
+    "update {{ No-Such := '0x{k}0' }}",
+    "update {{ No-Such-Password := a x = {v} }}",
+    'update {{ No-Such-Password := a "{v}" b }}',
+]
+# Copies of a secret attribute {s}, into instances, out of them, and by functions, that a server makes.
+COPIES = [
+    'Tmp-String-0 := "%{{{s}}}"', "Tmp-String-0 := &{s}", "&Tmp-String-0 += &control:{s}", '&Tmp-String-0[0] := "%{{{s}}}"',
+    "&request:Tmp-String-0[n] += &{s}[0]", '&control:Tmp-String-0[*] := "%{{control:{s}[*]}}"', "Tmp-String-0 := %{{{s}}}",
+    'Tmp-String-0 := "%{{string:{s}}}"', 'Tmp-String-0 := "%{{string:control:{s}}}"', 'Tmp-String-0 := "%{{hex:&{s}}}"',
+    'Tmp-String-0 := "a %{{tolower:%{{{s}}}}}"', 'Tmp-String-0 := "%{{md5:%{{%{{request:{s}}}:-x}}}}"',
+    "Tmp-String-0 := `/bin/echo %{{{s}}}`", 'reply:Tmp-String-0 := "%{{concat:{s}[*] ;}}"',
 ]
 CLOSED = "authorize {{\n{body}}}\n"
 # A server ends a statement at the line's end, and has no comments in a condition.
@@ -53,23 +75,22 @@ class Site(NamedTuple):
     secrets: List[bytes]
 
 
-def filled(rng: Random, template: str, attribute: Attribute, secrets: List[bytes]) -> str:
-    secret = new_secret(rng)
-    if "{v}" in template or "{x}" in template:
-        secrets.append(secret.encode())
-    return template.format(s=attribute.name, v=secret, x=secret.encode().hex())
+def with_secret(rng: Random, template: str, attribute: Attribute, secrets: List[bytes]) -> str:
+    text, secret = filled(rng, template, attribute)
+    secrets += [secret.encode()] if secret else []
+    return text
 
 
 def statement(rng: Random, attribute: Attribute, secrets: List[bytes]) -> str:
     drawn = rng.random()
     if drawn < 0.35:
-        text = filled(rng, rng.choice(STATEMENTS), attribute, secrets)
+        text = with_secret(rng, rng.choice(STATEMENTS), attribute, secrets)
         return text.replace("{ ", "{\n", 1).replace(" }", "\n}")
     if drawn < 0.7:
         template = rng.choice(ONE_LINE if is_text(attribute) else OCTETS) + rng.choice(["", *UNREAD])
-        return f"if ({filled(rng, template, attribute, secrets)}) {{\nok\n}}"
+        return f"if ({with_secret(rng, template, attribute, secrets)}) {{\nok\n}}"
     lines = rng.choice(LINES if is_text(attribute) else OCTETS_UPDATES)
-    return f"update {rng.choice(['', 'control', 'reply'])} {{\n{filled(rng, lines, attribute, secrets)}\n}}"
+    return f"update {rng.choice(['', 'control', 'reply'])} {{\n{with_secret(rng, lines, attribute, secrets)}\n}}"
 
 
 def new_site(seed: int) -> Site:
@@ -77,7 +98,7 @@ def new_site(seed: int) -> Site:
     rng = Random(seed)
     secrets: List[bytes] = []
     copied = rng.choice([it for it in attributes() if is_text(it)])
-    body = [f'update {{\nTmp-String-0 := "%{{{copied.name}}}"\n}}', f"if (&{copied.name} =~ /(.)(.*)/) {{\nok\n}}"]
+    body = [f"update {{\n{rng.choice(COPIES).format(s=copied.name)}\n}}", f"if (&{copied.name} =~ /(.)(.*)/) {{\nok\n}}"]
     body += [statement(rng, rng.choice(attributes()), secrets) for _ in range(rng.randint(2, 6))]
     rng.shuffle(body)
     return Site(CLOSED.format(body="\n".join(body) + "\n"), secrets)
@@ -171,6 +192,14 @@ ROWS: Dict[str, Row] = {
     "such digits between quotes": Row(
         f"update reply {{\nNo-Such := '0x{b'psk=hunter2x'.hex()}'\n}}", "No-Such := (hidden)"),
     "what follows a value with a sign": Row("update {\nNo-Such-Password := a x = hunter2x\n}", "(hidden)"),
+    "what follows a value behind a line that goes on": Row("update {\nNo-Such-Password := a \\\nx = hunter2x\n}", "(hidden)"),
+    "what follows it two lines on": Row("update {\nNo-Such-Password := a\\\r\n \\\n x = hunter2x\n}", "(hidden)"),
+    "what follows what follows it": Row("update {\nNo-Such-Password := a x = y \\\nz = hunter2x\n}", "(hidden)"),
+    "what follows what follows it on a line": Row("update {\nNo-Such-Password := a x = y z = hunter2x\n}", "(hidden)"),
+    "what stands below such a value": Row(
+        "update {\nNo-Such-Password := a\nNo-Such := hunter2x\n}", "No-Such := hunter2x"),
+    "what stands below a line that goes on": Row(
+        "update {\nNo-Such-Password := a \\\n\nNo-Such := hunter2x\n}", "No-Such := hunter2x"),
     "what follows a value with a brace": Row('update {\nNo-Such-Password := a "hunter2x" {\n}\n}', "(hidden)"),
     "a capture": Row(
         'if (&User-Password =~ /(.*)/) {\nok\n}\nif ("%{1}" == "hunter2x" && &No-Such) {\nok\n}',

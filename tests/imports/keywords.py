@@ -1,10 +1,10 @@
 """The keyword tests of FreeRADIUS's own source, each as a section of a server on loopback and as what
-`radpolicy-import` makes of it. KEYWORDS names their folder, `src/tests/keywords`; Debian's packages do not have it,
-`apt-get source freeradius` does."""
+`radpolicy-import` makes of it: their lists are the same, or the report tells of the line at which they part. KEYWORDS
+names their folder, `src/tests/keywords`; Debian's packages do not have it, `apt-get source freeradius` does."""
 import os
 import re
 from pathlib import Path
-from typing import Dict, List
+from typing import Dict, List, NamedTuple, Set
 
 from common.report import Report
 from common.subject import Subject, new_folder, on_all
@@ -19,6 +19,18 @@ DEFAULT = "default-input.attrs"
 PAIR = re.compile(r"^([A-Za-z0-9-]+) *(?::=|\+=|=)(?!=) *(.*)$", re.M)
 # What nearly each of them sets, so that its user is accepted.
 OF_USERS = "[obeyed-control]"
+# A line of a report, with the line of the test.
+TOLD = re.compile(r"^(?:\S*/)?parts/[^:]+:(\d+): ")
+OTHERWISE = re.compile(r"\}?\s*(?:else|elsif)\b")
+
+
+class Cut(NamedTuple):
+    """A test up to a line, with its blocks closed, and the lines whose conditions lead there: those that open the blocks
+    and the branches before them."""
+
+    line: int
+    text: str
+    heads: Set[int]
 
 
 def request_of(folder: Path, name: str) -> List[str]:
@@ -38,9 +50,59 @@ def tests_of(folder: Path) -> Dict[str, Part]:
     return found
 
 
+def cuts_of(text: str) -> List[Cut]:
+    """A test up to each line with which a statement ends or a block begins."""
+    found = [Cut(0, "", set())]
+    lines, open_blocks, closed = text.splitlines(), [], set()
+    for number, line in enumerate(lines, 1):
+        said = line.strip()
+        if not said or said.startswith("#") or said.endswith("\\"):
+            continue
+        if said.startswith("}") and open_blocks:
+            closed = open_blocks.pop()
+        if said.endswith("{"):
+            open_blocks.append({number} | (closed if OTHERWISE.match(said) else set()))
+        heads = {head for block in open_blocks for head in block}
+        found.append(Cut(number, "\n".join([*lines[:number], *("}" for _ in open_blocks), ""]), heads))
+    return found
+
+
+def part_of(test: Part, cut: Cut) -> Part:
+    return test._replace(text=cut.text)
+
+
+def middle(test: Part, cuts: List[Cut]) -> int:
+    """The place of a cut that a server takes, as near as can be to the middle; 0 where there is none but the ends."""
+    places = sorted(range(1, len(cuts) - 1), key=lambda place: abs(2 * place - len(cuts)))
+    return next((place for place in places if is_taken(part_of(test, cuts[place]), MODULES, POLICIES)), 0)
+
+
+def partings(subject: Subject, tests: Dict[str, Part]) -> Dict[str, List[Cut]]:
+    """Of each test the last cut that ends alike, and the next, which does not."""
+    cuts = {name: cuts_of(test.text) for name, test in tests.items()}
+    while True:
+        places = {name: middle(test, cuts[name]) for name, test in tests.items()}
+        parts = {name: part_of(tests[name], cuts[name][place]) for name, place in places.items() if place}
+        if not parts:
+            return {name: [found[0], found[-1]] for name, found in cuts.items()}
+        with new_folder() as folder:
+            found = answers(subject, folder, parts, configure(folder, parts, MODULES, POLICIES))
+        for name in parts:
+            one, place = found[name], places[name]
+            cuts[name] = cuts[name][place:] if one.theirs == one.ours else cuts[name][:place + 1]
+
+
 def faults_of(found: Answers) -> List[str]:
     """What is wrong with a test of which the report tells nothing."""
     return [] if found.theirs == found.ours else [f"{found.ours}, by a server {found.theirs}"]
+
+
+def faults_of_told(found: Answers, before: Cut, parting: Cut) -> List[str]:
+    """What is wrong with a test that ends otherwise, by where it parts."""
+    told = {int(said[1]) for line in found.told if OF_USERS not in line for said in [TOLD.match(line)] if said}
+    if told & (set(range(before.line + 1, parting.line + 1)) | parting.heads):
+        return []
+    return [f"nothing is told of line {parting.line}: {found.ours}, by a server {found.theirs}, {found.report}"]
 
 
 def check(subject: Subject, report: Report) -> None:
@@ -55,7 +117,11 @@ def check(subject: Subject, report: Report) -> None:
         ports = configure(folder, parts, MODULES, POLICIES)
         found = answers(subject, folder, parts, ports)
         report.check("a server takes the keyword tests", [] if found else [(folder / "log").read_text()[-2000:]])
-    silent = {name: one for name, one in found.items() if all(OF_USERS in line for line in one.told)}
-    report.say(f"    {len(silent)} of {len(found)} that a server takes are kept without a word, of {len(given)} tests")
-    for name, one in silent.items():
-        report.check(f"the keyword test {name}", faults_of(one))
+    told = {name for name, one in found.items() if not all(OF_USERS in line for line in one.told)}
+    otherwise = {name: parts[name] for name in told if found[name].theirs != found[name].ours}
+    report.say(f"    {len(found) - len(told)} of {len(found)} that a server takes are kept without a word, of {len(given)}")
+    report.say(f"    of the others {len(otherwise)} end otherwise, as their reports tell")
+    parted = partings(subject, otherwise)
+    for name, one in found.items():
+        faults = faults_of_told(one, *parted[name]) if name in parted else faults_of(one)
+        report.check(f"the keyword test {name}", faults)

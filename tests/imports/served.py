@@ -46,12 +46,15 @@ REWRITING = {
 SHOWING = "{policy}\nupdate reply {{\n{lines}\n}}\n"
 # What the server knows of the client.
 OF_CLIENT = {"Operator-Name": "1example.com", "add_cui": "yes"}
+# Its settings.
+OF_SERVER = {"prefix": "/usr"}
 KEY = "changeme"
 # Those whose warnings are of nothing that these requests have.
 SURE = (
     "captures", "captured_by_the_last", "texts_of_absent", "compared_texts", "compared_captures",
     "either_of_two_texts", "long_texts", "in_octets", "names_without_signs", "names_that_are_values", "texts_of_octets",
-    "numbers_in_hexadecimal", "codes_with_actions", *REWRITING)
+    "numbers_in_hexadecimal", "codes_with_actions", "numbers_of_64_bits", "octets_behind_a_capital", "repeated_octets",
+    "a_setting_of_the_server", *REWRITING)
 # What a report warns of that is about no request but those of the policies below.
 QUIET = ("long-expansion", "tagged-octets")
 
@@ -76,6 +79,7 @@ OF_SOME: Dict[str, Warned] = {
     "braces_with_blanks": Warned("", (), (), lambda sent: "b" in sent["User-Name"]),
     "edges_of_words": Warned("", (), (), lambda sent: True),
     "empty_with_a_tag": Warned("empty-tagged", (), (), lambda sent: True),
+    "starts_of_lines": Warned("line-start", (), (), lambda sent: sent["User-Name"].endswith("\\n")),
     "tagged_names": Warned(
         "tagged-octets", ("0x31", "0x4142", "0xzz", "0x123"), (), lambda sent: sent["User-Name"].startswith("0x")),
 }
@@ -89,6 +93,8 @@ NAMES_AND_VALUES = [
 ]
 # Those that the plain profile has, with octets in place of what they mean.
 PLAIN = ("in_octets", "texts_in_octets")
+# Those that ask functions besides these.
+STUBBED = (*REWRITING, "a_setting_of_the_server")
 # Those that are called where the reply is made.
 AFTER = ("handled_early",)
 HARDWARE = re.compile("[^0-9a-f]?".join(6 * ["([0-9a-f]{2})"]), re.I)
@@ -225,6 +231,21 @@ WRITTEN: Dict[str, str] = {
     "codes_with_actions": 'update reply {\nReply-Message := "before"\n}\nif (&NAS-Port == 2) {\nok {\nok = reject\n}\n}\n'
     'if (&NAS-Port == 3) {\nreject {\nok = return\n}\n}\nok {\nnoop = return\n}\nupdate reply {\nReply-Message += "after"\n}\n'
     'updated {\nupdated = return\n}\n',
+    "numbers_of_64_bits": 'update reply {\nMIP6-Feature-Vector := 0x10\n}\nif (&reply:MIP6-Feature-Vector == 0x1f && '
+    '"%{reply:MIP6-Feature-Vector}" != "0x1") {\nreject\n}\nif (&reply:MIP6-Feature-Vector == "0x1f") {\nupdate reply {\n'
+    'Reply-Message := "nothing"\n}\n}\nswitch &reply:MIP6-Feature-Vector {\ncase 0x20 {\nupdate reply {\n'
+    'Reply-Message += "a case"\n}\n}\n}\n',
+    "octets_behind_a_capital": 'update reply {\nClass := 0X6162\nClass += "0X6%{%{NAS-Port}:-4}"\nFilter-Id := 0X6162\n}\n'
+    'if (&reply:Class == 0X6162 && &reply:Class == "0X6162" && &reply:Filter-Id == "0X6162") {\nupdate reply {\n'
+    'Reply-Message := "the same"\n}\n}\n',
+    "repeated_octets": "".join(
+        f'update control {{\nUser-Name := "{name}"\n}}\n' + "".join(
+            f'if (&control:User-Name =~ /{pattern}/m) {{\nupdate reply {{\nReply-Message += "{at} of {number}"\n}}\n}}\n'
+            for at, pattern in enumerate(("^é+x", "^é?x", "^é{2}x", "^(?:é)+x", "^[^x]é*?x", "^xé|é+é")))
+        for number, name in enumerate(("\\303\\251\\251x", "\\303\\251\\303\\251x", "\\303x", "x\\303x"))),
+    "starts_of_lines": 'if (&User-Name =~ /(?m)^$/) {\nupdate reply {\nReply-Message := "an empty line"\n}\n}\n',
+    "a_setting_of_the_server": 'update control {\nConnect-Info := "control"\n}\nupdate reply {\n'
+    'Reply-Message := "%{config:prefix} %{Config:Connect-Info} %{CONTROL:Connect-Info}"\n}\n',
     "repeated_nothing": 'if (&User-Name =~ /^([a-z]*\\.?)*/m) {\nupdate reply {\nReply-Message := "%{0} and %{1}"\n}\n}\n',
     "braces_with_blanks": 'if (&User-Name =~ /b{1, 2}/m) {\nupdate reply {\nReply-Message := "a b"\n}\n}\n',
     "edges_of_words": 'if (&User-Name =~ /[[:<:]]e/) {\nupdate reply {\nReply-Message += "begins"\n}\n}\n'
@@ -232,7 +253,7 @@ WRITTEN: Dict[str, str] = {
     "empty_with_a_tag": 'update reply {\nTunnel-Private-Group-Id:1 := ""\nReply-Message := "after"\n}\n',
     "texts_that_are_false": 'if ("0" || \'false\') {\nreject\n}\nif ("00" && !"0" && "no") {\nupdate reply {\n'
     'Reply-Message := "true"\n}\n}\n',
-    "signs_that_are_escaped": 'update reply {\nReply-Message := "a\\\'b\\501"\nReply-Message += \'a\\\'b ${name}\'\n}\n',
+    "signs_that_are_escaped": 'update reply {\nReply-Message := "a\\\'b\\501"\nReply-Message += "\\045{User-Name}"\nReply-Message += \'a\\\'b ${name}\'\n}\n',
     "one_in_another": 'deny_realms\nif (&Service-Type == Login-User && &NAS-Port <= 2) {\nservice\n}\n',
 }
 CONFIGURATION = """prefix = /usr
@@ -389,6 +410,8 @@ def computed(name: str, function: str, text: str, request: str) -> str:
     sent = dict(re.findall(r'^(\S+) = "(.*)"$', request, re.M))
     if function == "client":
         return OF_CLIENT[text]
+    if function == "config":
+        return OF_SERVER[text]
     if function == "string":
         return sent["User-Password"].split("\\000")[0]
     if function == "sha1":
@@ -438,7 +461,7 @@ def imported(subject: Subject, folder: Path, dictionaries: Path, name: str) -> T
     others = folder / f"{name}.dictionary"
     words = ["--server", name, "--write-dictionary", others, "-o", folder / f"{name}.policy"]
     words += ["--section", section_of(name)]
-    if name in REWRITING:
+    if name in STUBBED:
         words.append("--stub-functions")
     if name in PLAIN:
         words.append("--papers")

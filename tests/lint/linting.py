@@ -9,7 +9,7 @@ from typing import Dict, List, Sequence, Tuple
 from common.report import Report
 from common.subject import Subject, new_folder, on_all
 from help.helping import environment, words_of
-from lint import answering
+from lint import answering, written
 
 HERE = Path(__file__).parent
 DEADLINE = 120
@@ -110,6 +110,7 @@ def check(subject: Subject, report: Report) -> None:
     check_paths(subject, report)
     check_answers(subject, report)
     answering.check(subject, report)
+    written.check(subject, report)
     program = subject.driver("radpolicy_lint")
     folders = sorted(path.parent for path in HERE.glob("*/wanted"))
     for folder, wrong in zip(folders, on_all(lambda folder: faults_of(program, folder), folders)):

@@ -42,6 +42,17 @@ ATTRIBUTE Cleartext-Password 1100 string
 """
 BUTTONS = ("To the start", "One step back", "One step forward", "To the end")
 CONTROLS = {("slider", "Position"), *(("button", name) for name in BUTTONS)}
+# As radpolicy-import writes it, and the lines that do not run where the user is bob.
+COMMENTED = """if (&User-Name == "bob") {  # policy.d/campus:3
+	update reply { Filter-Id := "bob's" }
+}  # policy.d/campus:5
+elsif (&User-Name == "eve") {  # policy.d/campus:6
+	reject
+}  # policy.d/campus:8
+ok
+"""
+IDLE = ["4", "5", "6"]
+IDLE_NUMBERS = "[...document.querySelectorAll('#policy .idle .number')].map(it => it.textContent)"
 # What is shown at a position: the words of the step, and each list.
 SHOWN = """(() => ({
   step: document.getElementById("step").textContent,
@@ -208,6 +219,17 @@ def check_lines(subject: Subject, report: Report, folder: Path) -> None:
     report.check("page of lines with tags", [f"{it!r} is not in the page" for it in pairs if it not in page])
 
 
+def check_idle(subject: Subject, report: Report, browser: Browser, folder: Path) -> None:
+    """Closing braces are dimmed with their branch, whatever comment is behind them."""
+    folder.joinpath("request").write_text('User-Name = "bob"\n')
+    folder.joinpath("policy").write_text(WIDER + COMMENTED)
+    made = Made(folder, ["-f", "request", "--policy", "policy", *files_of(subject)])
+    folder.joinpath("page.html").write_bytes(page_of(subject, made))
+    browser.open(f"file://{folder}/page.html")
+    found = [str(int(number) - 1) for number in browser.value(IDLE_NUMBERS)]
+    report.check("page with braces before comments", [] if found == IDLE else [f"lines {found} are dimmed"])
+
+
 def check_in_browser(subject: Subject, report: Report, browser: Browser, folder: Path) -> None:
     for name in ("transactions", "alternatives", "hello", "vlan"):
         folder.joinpath(name).mkdir()
@@ -216,6 +238,8 @@ def check_in_browser(subject: Subject, report: Report, browser: Browser, folder:
         browser.open(f"file://{folder}/page.html")
         wrong = faults_of_positions(browser, subject, made)
         report.check(f"page of {name}", wrong + browser.complaints() + faults_of_names(browser))
+    folder.joinpath("commented").mkdir()
+    check_idle(subject, report, browser, folder / "commented")
     folder.joinpath("hostile").mkdir()
     made = hostile(subject, folder / "hostile")
     page = page_of(subject, made, "--show-secrets")

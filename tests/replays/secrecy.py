@@ -35,12 +35,15 @@ FORMS: List[List[str]] = [
     HEX,
     [*HEX, "--tap"],
     [*HEX, "--against", "old", "--all"],
+    [*HEX, "--against", "old", "--all", "--tap"],
     [*HEX, "--against", "old", "--json"],
     [*HEX, *CAPTURED],
+    [*HEX, *CAPTURED, "--tap"],
     [*HEX, *CAPTURED, "--json"],
     TEXTS,
     [*TEXTS, "--json"],
     [*TEXTS, "--against", "old"],
+    [*TEXTS, "--against", "old", "--tap"],
     [*TEXTS, "--against", "old", "--all", "--json"],
 ]
 
@@ -132,13 +135,29 @@ def is_answered(ended: Ended) -> bool:
     return ended.status in (0, 1) and (b" 0 refused" in ended.errors or b'"refused":0' in ended.errors)
 
 
+def earlier(drawn: Drawn, number: int) -> Tuple[str, Ended]:
+    """What is said of an earlier output of a case, in one of the forms, that hid nothing: its first line is one of those
+    with a secret."""
+    rng = Random(f"earlier {number}")
+    options = rng.choice(FORMS)
+    output = drawn.replay([*options, "--show-secrets"]).output.splitlines(keepends=True)
+    lines = rng.sample(output, len(output))
+    first = next((it for it in lines if secrets.leaks(it, drawn.case.hidden)), b"none\n")
+    (drawn.folder / "earlier").write_bytes(first)
+    words = [*options, "--expect", "earlier"]
+    return " ".join(words), drawn.replay(words)
+
+
 def faults_of(subject: Subject, number: int) -> List[str]:
     """What a case's outputs have of its secrets."""
     with new_folder() as folder:
         drawn = Drawn(subject, folder, new_case(number))
         ended = {" ".join(options): drawn.replay(options) for options in FORMS}
+        words, told = earlier(drawn, number)
+        ended[words] = told
     said = {form: each.output + b"\n" + each.errors for form, each in ended.items()}
     found = [f"case {number}, {form}: {each}" for form, each in ended.items() if not is_answered(each)]
+    found += [] if b"earlier:1: expected " in told.errors else [f"case {number}, {words}: nothing is said of it"]
     if secrets.leaks(b"\n".join(said.values()), drawn.case.hidden):
         for form, text in said.items():
             found += [f"case {number}, {form}: {leak}" for leak in secrets.leaks(text, drawn.case.hidden)]

@@ -8,3 +8,4 @@ mod groupings;
 mod policies;
 mod repeats;
 mod tags;
+mod written_values;

@@ -1,4 +1,4 @@
--- The line of a text's first token, by the line ends before it, and the names among tokens, one token after another.
+-- The line of a text's first token, by the line ends before it, and the names and values among tokens, one token after another.
 use Rattle.std.proofs.Common.{◌≡◌, ◌≤◌, ◌∙◌, ℕ, suc, ◌+◌, ◌-◌, Bool, true, false, List, [], ◌∷◌, ◌++◌, length, take, Option, Some, None, refl, sym, ap, append_assoc, arith}
 use Rattle.std.specs.Prelude.{cond, count_by, ◌||◌, ◌==◌}
 use Rattle.std.proofs.lemmas.List.{length-take}
@@ -14,6 +14,7 @@ use Rattle.avp_unlang.specs.declared.text.tokens.Token.{Token}
 use Rattle.avp_unlang.proofs.ReachedTokens.{skipped_same}
 use Rattle.policy_warnings.specs.BareNames.{bare_names_from, is_bare_name}
 use Rattle.policy_warnings.specs.Warnings.{warning_if}
+use Rattle.policy_warnings.specs.WrittenValues.{token_warnings, written_reason, written_values_from}
 use Rattle.policy_warnings.specs.declared.warnings.Reason.TheVariants.{BareName}
 use Rattle.policy_warnings.specs.declared.warnings.Warning.{Warning}
 
@@ -116,3 +117,11 @@ module _ (profile : Profile) (line : ℕ) (rest start behind : List ℕ) (token 
       let more : List Warning = bare_names_from n d token (place profile behind at) in
       ap (λ (ws : List Warning). ws ++ more) is ∙ append_assoc old (warning_if (is_bare_name d before token) at BareName) more
       ∙ ap (λ (found : Token × Place). old ++ (warning_if (is_bare_name d before found.0) found.1.line BareName ++ bare_names_from n d found.0 found.1)) (sym next_is)
+
+  pub value_pushed : (d : Dictionary) (n : ℕ) (name before : Token) (old pushed : List Warning)
+      → pushed ≡ old ++ token_warnings at (written_reason profile d name before token) token
+      → pushed ++ written_values_from n d before token (place profile behind at) ≡ old ++ written_values_from (suc n) d name before (place profile rest line)
+  value_pushed d n name before old pushed is =
+      let more : List Warning = written_values_from n d before token (place profile behind at) in
+      ap (λ (ws : List Warning). ws ++ more) is ∙ append_assoc old (token_warnings at (written_reason profile d name before token) token) more
+      ∙ ap (λ (found : Token × Place). old ++ (token_warnings found.1.line (written_reason profile d name before found.0) found.0 ++ written_values_from n d before found.0 found.1)) (sym next_is)

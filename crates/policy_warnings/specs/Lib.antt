@@ -9,3 +9,5 @@ pub mod Repeats
 pub mod ServerAttributes
 pub mod ServerEvaluations
 pub mod Warnings
+pub mod WrittenPatterns
+pub mod WrittenValues

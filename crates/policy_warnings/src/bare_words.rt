@@ -61,7 +61,7 @@ fn after_request(word: &[u8]) -> &[u8]
 }
 
 #[tactic(auto, unfolding(crate::specs::BareNames::list_fronts))]
-fn after_list(word: &[u8]) -> &[u8]
+pub(crate) fn after_list(word: &[u8]) -> &[u8]
     ensures { result.now ≡ after_one_of list_fronts word.now }
 {
     after_one_of(&LIST_FRONTS, word)
@@ -75,7 +75,7 @@ fn names_attribute(dictionary: &Dictionary, word: &[u8]) -> bool
     target_of(dictionary, Profile::Wider, name).is_some()
 }
 
-fn takes_value(sign: Sign) -> bool
+pub(crate) fn takes_value(sign: Sign) -> bool
     ensures { result ≡ takes_value sign }
 {
     match sign {
@@ -99,7 +99,7 @@ fn is_bare_name(dictionary: &Dictionary, before: &Token<'_>, token: &Token<'_>) 
 
 // The line of the first token of a text that begins on a line, where the text from that token on is given.
 #[tactic(auto, using(crate::proofs::TokenLines::line_of_token, crate::proofs::TokenLines::line_within))]
-fn line_of(line: usize, text: &[u8], start: &[u8]) -> usize
+pub(crate) fn line_of(line: usize, text: &[u8], start: &[u8]) -> usize
     requires fits { line + length text.now < 2 ^ 64 }
     requires start { start.now ≡ from_token text.now }
     requires short { length start.now ≤ length text.now }

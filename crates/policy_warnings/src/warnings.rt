@@ -35,6 +35,16 @@ pub enum Reason {
     VirtualAttribute,
     /// A comparison for which a server asks a module.
     ModuleComparison,
+    /// A number in hexadecimal that a server reads otherwise.
+    HexadecimalNumber,
+    /// An empty text for an attribute with a tag.
+    EmptyTagged,
+    /// `-=` of an IPv6 prefix.
+    ShortPrefix,
+    /// A repetition of a letter beyond ASCII.
+    RepeatedOctet,
+    /// A `^` that matches at the beginning of each line.
+    LineStart,
 }
 
 /// A warning, and the line of the text that it is about.

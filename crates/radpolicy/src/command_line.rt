@@ -42,13 +42,13 @@ const ACCOUNTING: &str = "acct";
 
 const IDENTIFIER: &str = "identifier";
 
-const SECRET: &str = "secret";
+pub(crate) const SECRET: &str = "secret";
 
-const AUTHENTICATOR: &str = "authenticator";
+pub(crate) const AUTHENTICATOR: &str = "authenticator";
 
 const SCRIPT: &str = "script";
 
-const DICTIONARY: &str = "dictionary";
+pub(crate) const DICTIONARY: &str = "dictionary";
 
 fn file_option<'a>(alloc: Global, name: &'a str, value_name: &'a str, help: &'a str) -> Arg<'a>
     ensures rule { rule_of result ≡ valued name.entry.now }
@@ -222,7 +222,7 @@ fn titled<'a>(alloc: Global) -> Result<clap::Command<'a>, AllocError>
     clap::Command::new(alloc, "radpolicy").bin_name("radpolicy")
 }
 
-fn program<'a>(alloc: Global) -> Result<clap::Command<'a>, AllocError>
+pub(crate) fn program<'a>(alloc: Global) -> Result<clap::Command<'a>, AllocError>
     ensures { IfOk result (λ r. app_of r ≡ program) }
 {
     titled(alloc)?
@@ -253,14 +253,15 @@ fn fault_of(error: &clap::Error) -> Fault
 }
 
 // The value of an option, where it was given.
-fn text_in<'a>(found: &ArgMatches<'a>, name: &str) -> Option<&'a str>
-    ensures { option_map (λ text. text.now) result ≡ first_of name.now (rows_of (found_of found.now)) }
+pub(crate) fn text_in<'a>(found: &ArgMatches<'a>, name: &str) -> Option<&'a str>
+    ensures { option_map (λ text. text.now) result
+        ≡ first_of name.now (rows_of (found_of found.now)) }
 {
     found.get_str(name)
 }
 
 // The values of an option or of files, where there are some.
-fn texts_in<'a, 'b>(found: &'b ArgMatches<'a>, name: &str) -> Option<&'b [&'a str]>
+pub(crate) fn texts_in<'a, 'b>(found: &'b ArgMatches<'a>, name: &str) -> Option<&'b [&'a str]>
     ensures { option_map (λ texts. map (λ text. text.now) texts.now) result
         ≡ all_of name.now (rows_of (found_of found.now)) }
 {
@@ -284,8 +285,10 @@ fn files_of<'a>(alloc: Global, found: &ArgMatches<'a>) -> Result<Vec<&'a str>, F
     ensures some { IfOk result (λ files. 0 < length files.items) }
     ensures distinct { IfOk result (λ files. AreDistinct (names_of_paths files.items)) }
     ensures refused { IfErr result (λ fault. fault ≢ Memory → (fault ≡ OptionValue)
-        × ((paths : List (Bor (List ℕ))) → all_of (codes "dictionary") (rows_of (found_of found.now))
-        ≡ Some (map (λ path. path.now) paths) → 0 < length paths → AreDistinct (names_of_paths paths) → ⊥)) }
+        × ((paths : List (Bor (List ℕ)))
+        → all_of (codes "dictionary") (rows_of (found_of found.now))
+        ≡ Some (map (λ path. path.now) paths)
+        → 0 < length paths → AreDistinct (names_of_paths paths) → ⊥)) }
     ensures fault { IfErr result IsWordFault }
 {
     let Some(files) = texts_in(found, DICTIONARY) else {
@@ -301,7 +304,7 @@ fn files_of<'a>(alloc: Global, found: &ArgMatches<'a>) -> Result<Vec<&'a str>, F
 }
 
 // How the request is given. The packet of `decode` is in hexadecimal digits.
-fn form_of(command: Command, found: &ArgMatches<'_>) -> Result<Form, Fault>
+pub(crate) fn form_of(command: Command, found: &ArgMatches<'_>) -> Result<Form, Fault>
     ensures form { IfOk result (λ form. form_of command
         (is_given (codes "hex") (rows_of (found_of found.now)))
         (is_given (codes "acct") (rows_of (found_of found.now))) ≡ Some form) }
@@ -330,7 +333,7 @@ fn identifier_in(word: &str) -> Result<u8, Fault>
 }
 
 // The packet's Identifier. A packet in hexadecimal digits has its own, and takes none.
-fn identifier_of(form: Form, found: &ArgMatches<'_>) -> Result<u8, Fault>
+pub(crate) fn identifier_of(form: Form, found: &ArgMatches<'_>) -> Result<u8, Fault>
     ensures identifier { IfOk result (IsIdentifierOf form
         (first_of (codes "identifier") (rows_of (found_of found.now)))) }
     ensures refused { IfErr result (λ fault. (fault ≡ OptionValue)
@@ -356,7 +359,7 @@ fn authenticator_in(word: &str) -> Result<[u8; 16], Fault>
     Ok(authenticator)
 }
 
-fn authenticator_of(found: &ArgMatches<'_>) -> Result<Option<[u8; 16]>, Fault>
+pub(crate) fn authenticator_of(found: &ArgMatches<'_>) -> Result<Option<[u8; 16]>, Fault>
     ensures octets { IfOk result (IsAuthenticatorOf
         (first_of (codes "authenticator") (rows_of (found_of found.now)))) }
     ensures refused { IfErr result (λ fault. (fault ≡ OptionValue)
@@ -455,7 +458,9 @@ fn plan_of<'a>(alloc: Global, command: Command, found: &ArgMatches<'a>) -> Resul
 }
 
 // The command that was named, and what was found for its options and files.
-fn command_in<'a, 'b>(matches: &'b ArgMatches<'a>) -> Option<(Command, &'b ArgMatches<'a>)>
+pub(crate) fn command_in<'a, 'b>(
+    matches: &'b ArgMatches<'a>,
+) -> Option<(Command, &'b ArgMatches<'a>)>
     ensures some { IfSome result (λ x. subcommand_rows_of matches.now
         ≡ Some (command_name x.0, rows_of (found_of x.1.now))) }
     ensures none { result ≡ None → (command : Command) (rows : List Row)
@@ -502,94 +507,6 @@ pub fn read_words<'a, S: AsStr>(alloc: Global, words: &'a [S]) -> Result<Plan<'a
     match command_in(&matches) {
         Some((command, found)) => plan_of(alloc, command, found),
         None => Err(Fault::Usage),
-    }
-}
-
-// What the Identifier of a request in this form may be.
-fn identifier_text(form: Form) -> &'static str {
-    match form {
-        Form::Hex => "-i is refused with a packet, which has an Identifier of its own",
-        Form::Access | Form::Accounting => "-i takes a number from 0 to 255",
-    }
-}
-
-// What is wrong with options that do not go together; the empty text where nothing is.
-fn rules_text(command: Command, form: Form, secret: bool, authenticator: bool) -> &'static str {
-    match (command, form, secret, authenticator) {
-        (Command::Run | Command::Step, Form::Hex, false, _) => {
-            "--hex needs -S and the file that has the client's secret"
-        }
-        (Command::Run, Form::Hex, true, true) => {
-            "--authenticator is refused with --hex: the packet has its own"
-        }
-        (Command::Run | Command::Encode, Form::Access, true, false) => {
-            "-S needs --authenticator and 32 hexadecimal digits for request lines; for a trial any \
-            will do, as 00000000000000000000000000000000"
-        }
-        (Command::Run, Form::Access, false, true) => "--authenticator needs -S for request lines",
-        (Command::Run | Command::Encode, Form::Accounting, _, true) => {
-            "--authenticator is refused with --acct, which computes it"
-        }
-        (Command::Step, Form::Access | Form::Accounting, true, _) => {
-            "step takes -S with --hex only: leave it out for request lines"
-        }
-        _ => "",
-    }
-}
-
-// What is wrong with the values of a command's options, in the order in which they are read.
-fn refusal_of(
-    alloc: Global,
-    command: Command,
-    found: &ArgMatches<'_>,
-) -> Result<&'static str, AllocError> {
-    let Ok(form) = form_of(command, found) else {
-        return Ok("--hex and --acct exclude each other: a packet says by its code what it is");
-    };
-    if identifier_of(form, found).is_err() {
-        return Ok(identifier_text(form));
-    }
-    if authenticator_of(found).is_err() {
-        return Ok("--authenticator takes 32 hexadecimal digits");
-    }
-    if !has_distinct_names(alloc, texts_in(found, DICTIONARY).unwrap_or(&[]))? {
-        return Ok(
-            "two dictionary files have one name, the last part of their paths: copy one to \
-            another name, and include it by that",
-        );
-    }
-    let (secret, authenticator) = (text_in(found, SECRET), text_in(found, AUTHENTICATOR));
-    Ok(rules_text(command, form, secret.is_some(), authenticator.is_some()))
-}
-
-/// Why the words of a command line are refused as `OptionValue`: which option, and what it takes. It is empty where they
-/// are not.
-///
-/// ```rust
-/// let words = [
-///     "radpolicy",
-///     "run",
-///     "-i",
-///     "256",
-///     "--policy",
-///     "policy",
-///     "dictionary",
-/// ];
-/// assert_eq!(rt;
-///     option_text(alloc, &words)?,
-///     "-i takes a number from 0 to 255"
-/// );
-/// ```
-pub fn option_text<'a, S: AsStr>(
-    alloc: Global,
-    words: &'a [S],
-) -> Result<&'static str, AllocError> {
-    let Ok(matches) = program(alloc)?.try_get_matches_from(words) else {
-        return Ok("");
-    };
-    match command_in(&matches) {
-        Some((command, found)) => refusal_of(alloc, command, found),
-        None => Ok(""),
     }
 }
 

@@ -1,5 +1,7 @@
 pub mod ChangeTexts
 pub mod Changes
+pub mod DigitRuns
+pub mod FileKinds
 pub mod Inputs
 pub mod JsonStrings
 pub mod Marks

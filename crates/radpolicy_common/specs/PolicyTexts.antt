@@ -2,15 +2,13 @@
 -- hidden.
 use Rattle.std.specs.Prelude.{ℕ, ◌+◌, Bool, true, false, not, ◌&&◌, ◌||◌, ◌==◌, nat_eq, if◌then◌else◌, List, [], ◌∷◌, ◌++◌, codes, drop, take}
 use Rattle.std.specs.List.{filter, flat_map, list_any}
-use Rattle.std.specs.Option.{option_map_or}
 use Rattle.avp_dict.specs.Ascii.{line_feed}
 use Rattle.avp_dict.specs.Quotes.{octets_between}
-use Rattle.avp_dict.specs.Spellings.{octets_spelled}
-use Rattle.avp_dict.specs.declared.value.quotes.QuoteMark.{QuoteMark}
 use Rattle.avp_dict.specs.declared.value.quotes.QuoteMark.TheVariants as quote
 use Rattle.avp_forms.specs.Profiles.{profile_of}
 use Rattle.avp_unlang.specs.declared.text.tokens.Token.{Token}
 use Rattle.avp_unlang.specs.declared.text.tokens.Token.TheVariants.{Matching, Quoted, Unreadable, Word}
+use Rattle.radpolicy_common.specs.DigitRuns.{spelled_octets}
 use Rattle.radpolicy_common.specs.Pieces.{Piece, gap, is_border, is_literal, is_reference, is_relating, is_word, pieces_of}
 use Rattle.radpolicy_common.specs.SecretAttributes.{is_secret_text}
 use Rattle.radpolicy_common.specs.SecretWords.{mentions_secret, puts_in_secret}
@@ -79,34 +77,33 @@ elements r (p ∷ ps) =
 
 -- ---- which of them are secret
 
--- the octets for which `0x` and hexadecimal digits stand have a secret key
-abbrev pub spells_secret_text : List ℕ → Bool
-spells_secret_text word = option_map_or is_secret_text (octets_spelled word) false
+-- a text has a secret key, or the octets for which hexadecimal digits in it stand have one
+abbrev pub has_secret_key : List ℕ → Bool
+has_secret_key text = is_secret_text text || is_secret_text (spelled_octets text)
 
--- the octets for which a text between quotes stands have a secret key, or spell octets that have one
-abbrev pub quotes_secret_text : QuoteMark → List ℕ → Bool
-quotes_secret_text mark text =
-    is_secret_text (octets_between mark text) || spells_secret_text (octets_between mark text)
+-- a text has one as it is, or with its escapes read
+abbrev pub quotes_secret_text : List ℕ → Bool
+quotes_secret_text text = has_secret_key text || has_secret_key (octets_between quote.Double text)
 
--- what a token refers to is secret, or it is a text or a pattern with a secret key, or what can't be read and has one
+-- what a token refers to is secret, or it is a text, a pattern or a word with a secret key, or what can't be read and has
+-- one
 abbrev pub refers_to_secret : Redaction → Piece → Token → Bool
 refers_to_secret redaction p (Word word) =
-    mentions_secret redaction word || spells_secret_text word
+    mentions_secret redaction word || has_secret_key word
 refers_to_secret redaction p (Quoted quote.Double text) =
-    quotes_secret_text quote.Double text || puts_in_secret redaction redaction.captured text
-refers_to_secret redaction p (Quoted quote.Single text) = quotes_secret_text quote.Single text
-refers_to_secret redaction p (Matching matcher) = is_secret_text matcher.pattern
+    quotes_secret_text text || puts_in_secret redaction redaction.captured text
+refers_to_secret redaction p (Quoted quote.Single text) = quotes_secret_text text
+refers_to_secret redaction p (Matching matcher) = quotes_secret_text matcher.pattern
 refers_to_secret redaction p Unreadable =
-    mentions_secret redaction p.octets || is_secret_text p.octets
+    mentions_secret redaction p.octets || quotes_secret_text p.octets
 refers_to_secret redaction p _ = false
 
 -- in a text that may be no policy each name between quotes counts, and each group that is put in
 abbrev pub may_refer_to_secret : Redaction → Piece → Token → Bool
 may_refer_to_secret redaction p (Quoted quote.Double text) =
-    quotes_secret_text quote.Double text || mentions_secret redaction text
-    || puts_in_secret redaction true text
+    quotes_secret_text text || mentions_secret redaction text || puts_in_secret redaction true text
 may_refer_to_secret redaction p (Quoted quote.Single text) =
-    quotes_secret_text quote.Single text || mentions_secret redaction text
+    quotes_secret_text text || mentions_secret redaction text
 may_refer_to_secret redaction p token = refers_to_secret redaction p token
 
 abbrev pub is_secret_piece : Reading → Redaction → Piece → Bool
@@ -151,9 +148,10 @@ from_line_feed (c ∷ cs) = if c == line_feed then c ∷ cs else from_line_feed 
 abbrev pub piece_hidden : Piece → List ℕ
 piece_hidden p = line_feeds p.octets ++ from_line_feed p.after
 
--- a text that is no policy is hidden from a literal on, or a word that follows a secret name
+-- a text that is no policy is hidden from a literal on, or a word that follows a secret name or has a secret key
 abbrev pub begins_secret_value : Bool → Piece → Bool
-begins_secret_value named p = is_literal p.token || (named && is_word p.token)
+begins_secret_value named p =
+    if is_word p.token then named || has_secret_key p.octets else is_literal p.token
 
 -- a secret element of such a text, after a secret name or not: all is hidden behind an operator, and from a value on
 abbrev pub rest_hidden : Redaction → Bool → List Piece → List ℕ

@@ -17,7 +17,8 @@ pub fn named_attributes<'a>(
     ensures ids { IfOk result (λ found. IfOk found (λ ids.
         map (λ name. option_map (λ entry. entry.id) (named name.now dictionary.now)) names.now
         ≡ map (λ id. Some id) ids.items)) }
-    ensures unknown { IfOk result (λ found. IfErr found (λ name. named name.now dictionary.now ≡ None)) }
+    ensures unknown { IfOk result (λ found.
+        IfErr found (λ name. named name.now dictionary.now ≡ None)) }
     ensures given { IfOk result (λ found. IfErr found (λ name. Contains names.now name)) }
 {
     let mut ids = Vec::new(alloc);

@@ -2,8 +2,9 @@
 
 ghost use Rattle.std.specs.Prelude.{◌≡◌, ◌++◌, IfOk, OnOk, false};
 ghost use Rattle.std.specs.List.{flat_map, list_any};
-ghost use Rattle.radpolicy_common.specs.PolicyTexts.{begins_secret_value, element_shown, from_line_feed, has_secret_references, hidden_octets, is_related, is_secret_piece, line_feeds, literals_hidden, may_refer_to_secret, octets_shown, piece_hidden, piece_text, pieces_shown, policy_shown, quotes_secret_text, refers_to_secret, rest_hidden, shown_by, spells_secret_text, unread_shown};
+ghost use Rattle.radpolicy_common.specs.PolicyTexts.{begins_secret_value, element_shown, from_line_feed, has_secret_key, has_secret_references, hidden_octets, is_related, is_secret_piece, line_feeds, literals_hidden, may_refer_to_secret, octets_shown, piece_hidden, piece_text, pieces_shown, policy_shown, quotes_secret_text, refers_to_secret, rest_hidden, shown_by, unread_shown};
 
+use crate::digit_runs::spelled_octets;
 use crate::elements::{Reading, element_length};
 use crate::pieces::{Piece, gap, pieces_of};
 use crate::redactions::{Redaction, SecretValues};
@@ -12,35 +13,30 @@ use crate::secret_words::{mentions_secret, puts_in_secret};
 use avp_dict::{QuoteMark, octets_between};
 use avp_forms::profile_of;
 use avp_unlang::Token;
-use hex::FromHexError;
 use std::alloc::{AllocError, Global};
 
 // ---- which pieces are secret
 
-// Whether the octets for which `0x` and hexadecimal digits stand have a secret key.
-#[tactic(auto, unfolding(avp_dict::specs::Spellings::octets_spelled))]
-fn spells_secret_text(alloc: Global, word: &[u8]) -> Result<bool, AllocError>
-    ensures { IfOk result (λ secret. secret ≡ spells_secret_text word.now) }
+// Whether a text has a secret key, or the octets for which hexadecimal digits in it stand have one.
+fn has_secret_key(alloc: Global, text: &[u8]) -> Result<bool, AllocError>
+    ensures { IfOk result (λ secret. secret ≡ has_secret_key text.now) }
 {
-    match word {
-        [b'0', b'x', digits @ ..] => match hex::decode(alloc, digits) {
-            Ok(octets) => Ok(is_secret_text(&octets)),
-            Err(FromHexError::OutOfMemory) => Err(AllocError),
-            Err(_) => Ok(false),
-        },
-        _ => Ok(false),
+    Ok(is_secret_text(text) || is_secret_text(&spelled_octets(alloc, text)?))
+}
+
+// Whether a text has one as it is, or with its escapes read.
+fn quotes_secret_text(alloc: Global, text: &[u8]) -> Result<bool, AllocError>
+    ensures { IfOk result (λ secret. secret ≡ quotes_secret_text text.now) }
+{
+    if has_secret_key(alloc, text)? {
+        return Ok(true);
     }
+    let octets = octets_between(alloc, QuoteMark::Double, text)?;
+    has_secret_key(alloc, &octets)
 }
 
-// Whether the octets for which a text between quotes stands have a secret key, or spell octets that have one.
-fn quotes_secret_text(alloc: Global, mark: QuoteMark, text: &[u8]) -> Result<bool, AllocError>
-    ensures { IfOk result (λ secret. secret ≡ quotes_secret_text mark text.now) }
-{
-    let octets = octets_between(alloc, mark, text)?;
-    Ok(is_secret_text(&octets) || spells_secret_text(alloc, &octets)?)
-}
-
-// Whether a token refers to a secret attribute, or to what was captured of one, or is a text or a pattern with a secret key.
+// Whether a token refers to a secret attribute, or to what was captured of one, or is a text, a pattern or a word with a
+// secret key.
 fn refers_to_secret(
     alloc: Global,
     redaction: &Redaction<'_>,
@@ -51,19 +47,16 @@ fn refers_to_secret(
 {
     Ok(match &piece.token {
         Token::Word(word) => {
-            mentions_secret(redaction, word.as_slice())
-                || spells_secret_text(alloc, word.as_slice())?
+            mentions_secret(redaction, word.as_slice()) || has_secret_key(alloc, word.as_slice())?
         }
         Token::Quoted(QuoteMark::Double, text) => {
-            quotes_secret_text(alloc, QuoteMark::Double, text.as_slice())?
+            quotes_secret_text(alloc, text.as_slice())?
                 || puts_in_secret(redaction, redaction.captured(), text.as_slice())
         }
-        Token::Quoted(QuoteMark::Single, text) => {
-            quotes_secret_text(alloc, QuoteMark::Single, text.as_slice())?
-        }
-        Token::Matching(matcher) => is_secret_text(matcher.pattern.as_slice()),
+        Token::Quoted(QuoteMark::Single, text) => quotes_secret_text(alloc, text.as_slice())?,
+        Token::Matching(matcher) => quotes_secret_text(alloc, matcher.pattern.as_slice())?,
         Token::Unreadable => {
-            mentions_secret(redaction, piece.octets) || is_secret_text(piece.octets)
+            mentions_secret(redaction, piece.octets) || quotes_secret_text(alloc, piece.octets)?
         }
         _ => false,
     })
@@ -81,14 +74,14 @@ fn may_refer_to_secret(
     match &piece.token {
         Token::Quoted(QuoteMark::Double, text) => {
             Ok(
-                quotes_secret_text(alloc, QuoteMark::Double, text.as_slice())?
+                quotes_secret_text(alloc, text.as_slice())?
                     || mentions_secret(redaction, text.as_slice())
                     || puts_in_secret(redaction, true, text.as_slice()),
             )
         }
         Token::Quoted(QuoteMark::Single, text) => {
             Ok(
-                quotes_secret_text(alloc, QuoteMark::Single, text.as_slice())?
+                quotes_secret_text(alloc, text.as_slice())?
                     || mentions_secret(redaction, text.as_slice()),
             )
         }
@@ -232,10 +225,14 @@ fn push_pieces_hidden(text: &mut Vec<u8>, pieces: &[Piece<'_>]) -> Result<(), Al
     Ok(())
 }
 
-fn begins_secret_value(named: bool, piece: &Piece<'_>) -> bool
-    ensures { result ≡ begins_secret_value named piece.now }
+// Whether a secret element is hidden from a piece on, which follows a secret name or not.
+fn begins_secret_value(alloc: Global, named: bool, piece: &Piece<'_>) -> Result<bool, AllocError>
+    ensures { IfOk result (λ begins. begins ≡ begins_secret_value named piece.now) }
 {
-    piece.is_literal() || (named && piece.is_word())
+    if piece.is_word() {
+        return Ok(named || has_secret_key(alloc, piece.octets)?);
+    }
+    Ok(piece.is_literal())
 }
 
 // A secret element of a text that may be no policy: all is hidden behind an operator, and from a value on.
@@ -256,7 +253,7 @@ fn push_rest_hidden(
             text.extend_from_slice(from_line_feed(piece.after))?;
             return push_pieces_hidden(text, others);
         }
-        if begins_secret_value(named, piece) {
+        if begins_secret_value(*text.allocator(), named, piece)? {
             push_hidden(text, piece.octets)?;
             text.extend_from_slice(from_line_feed(piece.after))?;
             return push_pieces_hidden(text, others);

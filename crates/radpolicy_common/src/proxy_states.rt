@@ -8,7 +8,8 @@ use crate::redactions::Redaction;
 use avp_lists::AttrId;
 use avp_packet::{Attribute, BadLength, attributes};
 
-const PROXY_STATE: u8 = 33;
+/// Proxy-State (RFC 2865, section 5.33).
+pub const PROXY_STATE: u8 = 33;
 
 fn is_hidden_proxy_state(redaction: &Redaction<'_>, item: &Result<Attribute<'_>, BadLength>) -> bool
     ensures { result ≡ is_hidden_proxy_state redaction.now (item_view item.now) }

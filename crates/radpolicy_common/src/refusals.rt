@@ -3,8 +3,11 @@
 ghost use Rattle.std.specs.Prelude.{◌≡◌, []};
 ghost use Rattle.radpolicy_common.specs.Refusals.{fault_of_unread};
 ghost use Rattle.radpolicy.specs.Faults.{IsPrintedWith, status_of};
+ghost use Rattle.radpolicy.specs.declared.faults.Fault.TheVariants.{OptionValue};
 
+use crate::file_kinds::FileKind;
 use crate::files::Unread;
+use crate::terminals::{LineBreaks, visible_text};
 use avp_dict::FileSet;
 use radpolicy::{Fault, WriteOutput, print_fault, status};
 
@@ -39,4 +42,18 @@ pub fn refuse_unread(rt: &HostRuntime, unread: Unread<'_>) -> u8
         }
         _ => refuse_early(rt, &fault),
     }
+}
+
+/// Prints a line that says of a file, in which attribute lines or packets were to be, that it is of another kind, and
+/// gives the status. The path has no control characters.
+pub fn refuse_kind(rt: &HostRuntime, program: &str, path: &str, kind: FileKind) -> u8
+    ensures { result ≡ status_of OptionValue }
+{
+    let advice = kind.advice();
+    let _ = eprint!(rt; "{program}: ");
+    if let Ok(shown) = visible_text(rt.alloc(), path.as_bytes(), LineBreaks::Escaped) {
+        let _ = rt.stderr().write_all(&shown);
+    }
+    let _ = eprintln!(rt; ": {advice}");
+    status(&Fault::OptionValue)
 }

@@ -125,6 +125,19 @@ pub(crate) fn explain_options(
     visible_text(alloc, &help, LineBreaks::Kept)
 }
 
+/// What is said where no dictionary is named, and the system has none.
+pub(crate) fn explain_no_dictionary(alloc: Global) -> Result<Vec<u8>, AllocError> {
+    let mut help = Vec::new(alloc);
+    push_all(
+        &mut help,
+        &[
+            "no dictionary files are named, and the system has none\n\
+            write -D and their folder, or the files themselves, the main one first\n",
+        ],
+    )?;
+    Ok(help)
+}
+
 /// What is said of a file that could not be read.
 pub fn explain_unread(alloc: Global, path: &str, is_folder: bool) -> Result<Vec<u8>, AllocError>
     ensures visible { IfOk result (λ text. all_visible Kept text.items ≡ true) }

@@ -201,7 +201,30 @@ pub(crate) fn value_names<'a>(
     Ok(names)
 }
 
-/// Those of the names that are nearest to a word; where none is near, all if they are few.
+// Whether a name begins with a word, in letters of either case.
+fn begins_with(name: &str, word: &str) -> bool {
+    match name.get(..word.len()) {
+        Some(front) => front.eq_ignore_ascii_case(word),
+        None => false,
+    }
+}
+
+// The first of the names that begin with a word.
+fn beginning_with<'a>(
+    alloc: Global,
+    names: &[&'a str],
+    word: &str,
+) -> Result<Vec<&'a str>, AllocError> {
+    let mut found = Vec::new(alloc);
+    for name in names {
+        if word.len() > 2 && found.len() < MOST_VALUES && begins_with(name, word) {
+            found.push(*name)?;
+        }
+    }
+    Ok(found)
+}
+
+/// Those of the names that are nearest to a word; where none is near, those that begin with it, or all if they are few.
 pub(crate) fn shown_values<'a>(
     alloc: Global,
     names: &[&'a str],
@@ -211,8 +234,11 @@ pub(crate) fn shown_values<'a>(
     for name in names {
         nearest.add(name)?;
     }
-    if nearest.names.is_empty() && names.len() <= MOST_VALUES {
+    if !nearest.names.is_empty() {
+        return Ok(nearest.names);
+    }
+    if names.len() <= MOST_VALUES {
         return Vec::from_slice(alloc, names);
     }
-    Ok(nearest.names)
+    beginning_with(alloc, names, word)
 }

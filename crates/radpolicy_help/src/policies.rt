@@ -2,7 +2,7 @@
 
 use crate::allowances::push_unread_profile;
 use crate::captures::{has_number, operand_hint};
-use crate::contexts::{Context, Expected, context_after, expected_text};
+use crate::contexts::{Context, Expected, OpenBlock, context_after, expected_text};
 use crate::found::Found;
 use crate::halves::HIDDEN;
 use crate::nearest::nearest_of;
@@ -11,10 +11,11 @@ use crate::places::{Quoted, last_line, push_place};
 use crate::policy_tokens::{is_match, is_update_operator};
 use crate::secret_words::hidden_of;
 use crate::sources::Sources;
-use crate::texts::{push_all, push_choices};
+use crate::texts::{push_all, push_choices, push_number};
 use crate::unknown_names::{misspelt_at, name_in, push_unknown};
 use crate::unread_secrets::UnreadSecrets;
 use crate::values::push_not_value;
+use avp_dict::line_after;
 use avp_forms::{Profile, profile_of};
 use avp_unlang::{PolicyFault, PolicyKind};
 use std::alloc::{AllocError, Global};
@@ -39,7 +40,9 @@ const LISTS: [&str; 3] = ["request", "reply", "control"];
 fn statement_hint(word: &str) -> Option<&'static str> {
     match word {
         "switch" | "case" => {
-            Some("switch is left out here: write if (&Name == value) { .. } elsif (..) { .. }")
+            Some(
+                "switch is left out here: write if (&Name == value) { .. } elsif (..) { .. }, as radpolicy-import does",
+            )
         }
         "foreach" | "break" => Some(
             "loops are left out here: of an attribute the first instance alone can be used, as &Name",
@@ -97,6 +100,18 @@ fn push_statement_hint(
     }
     if begins_with_control(next) {
         return push_all(help, &["take out what is shown as \\ and three digits\n"]);
+    }
+    if word == "&" {
+        return push_all(
+            help,
+            &["attributes are set in a block: write update reply { .. }\n"],
+        );
+    }
+    if word.starts_with("\"") || word.starts_with("'") {
+        return push_all(
+            help,
+            &["no text stands here: write update reply { Reply-Message := .. } before the code\n"],
+        );
     }
     let names = nearest_of(alloc, word, &STATEMENT_WORDS)?;
     if !names.is_empty() {
@@ -279,7 +294,7 @@ fn push_misplaced(
 // What to do about a text between double quotes with an expansion that is none.
 fn expansion_hint(text: &str) -> &'static str {
     if text.contains("%{%{") {
-        "defaults in expansions are left out here: write if (&Name) { .. } else { .. }"
+        "defaults in expansions are left out here: write if (&Name) { .. } else { .. }, as radpolicy-import does"
     } else if text.contains("%{") && text.contains(":") {
         "%{Name}, %{reply:Name} and %{control:Name} may be put into a text; modules, as sql, and \
         counts, casts and functions are left out here"
@@ -288,6 +303,30 @@ fn expansion_hint(text: &str) -> &'static str {
     } else {
         "write %% for a % in a text between double quotes"
     }
+}
+
+// The quote of print with which a text begins, if it does.
+fn print_quote(text: &[u8]) -> Option<&'static str> {
+    for quote in [
+        "\u{201c}", "\u{201d}", "\u{201e}", "\u{2018}", "\u{2019}", "\u{ab}", "\u{bb}",
+    ] {
+        if text.starts_with(quote.as_bytes()) {
+            return Some(quote);
+        }
+    }
+    None
+}
+
+// What is said of what is no token.
+fn push_unreadable(help: &mut Vec<u8>, found: &Found<'_>) -> Result<(), AllocError> {
+    if let Some(quote) = print_quote(found.back) {
+        return push_all(
+            help,
+            &["found ", quote, ", a quote of print: write \" or '\n"],
+        );
+    }
+    push_all(help, &["found ", found.shown, "\n"])?;
+    push_all(help, &[unreadable_hint(found.token), "\n"])
 }
 
 // What to do about what is no token, by its first octets.
@@ -335,6 +374,38 @@ fn push_unfit_value(
     push_not_value(alloc, help, sources, profile, name, found.shown)
 }
 
+// The update in which a word is found that begins a statement, as if it were an attribute's name.
+fn unended_update(context: &Context<'_>, found: &Found<'_>) -> Option<OpenBlock> {
+    if context.expected == Expected::Line
+        && STATEMENT_WORDS.contains(&found.token)
+        && !is_update_operator(found.next)
+    {
+        context.blocks.as_slice().last().copied()
+    } else {
+        None
+    }
+}
+
+// What is said of a name of no attribute: in an update without its end it may be no name.
+fn push_no_name(
+    alloc: Global,
+    help: &mut Vec<u8>,
+    sources: &Sources<'_>,
+    context: &Context<'_>,
+    found: &Found<'_>,
+) -> Result<(), AllocError> {
+    let Some(update) = unended_update(context, found) else {
+        return push_unknown(alloc, help, sources, context, found);
+    };
+    let text = sources.policy.text;
+    push_all(
+        help,
+        &[found.shown, " begins a statement: the update of line "],
+    )?;
+    push_number(help, line_after(text.get(..update.offset).unwrap_or(text)))?;
+    push_all(help, &[" has no }\n"])
+}
+
 // What was found, and what to do, by the fault's kind.
 fn push_sentences(
     alloc: Global,
@@ -351,11 +422,8 @@ fn push_sentences(
             push_all(help, &["found ", without_pattern(found.shown), "\n"])?;
             push_all(help, &[unread_pattern_hint(found.back), "\n"])
         }
-        PolicyKind::Unreadable => {
-            push_all(help, &["found ", found.shown, "\n"])?;
-            push_all(help, &[unreadable_hint(found.token), "\n"])
-        }
-        PolicyKind::Unknown => push_unknown(alloc, help, sources, context, found),
+        PolicyKind::Unreadable => push_unreadable(help, found),
+        PolicyKind::Unknown => push_no_name(alloc, help, sources, context, found),
         PolicyKind::NotValue => push_unfit_value(alloc, help, sources, context, found),
         PolicyKind::TooLong => push_too_long(help, name_in(context.name)),
         PolicyKind::NotWritable => push_not_writable(help, name_in(found.shown)),

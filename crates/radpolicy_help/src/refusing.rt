@@ -5,7 +5,7 @@ ghost use Rattle.radpolicy.specs.Faults.{IsPrintedWith, status_of};
 ghost use Rattle.radpolicy_common.specs.Refusals.{fault_of_unread};
 
 use crate::colours::coloured;
-use crate::command_lines::{explain_options, explain_unread};
+use crate::command_lines::{explain_no_dictionary, explain_options, explain_unread};
 use crate::explanations::explain;
 use crate::names::explain_name;
 use crate::printing::print_with_help;
@@ -118,13 +118,15 @@ fn print_word(rt: &HostRuntime, word: &str, fault: &Fault) {
     let _ = eprintln!(rt; ": {fault}");
 }
 
-/// Prints what is said of a file that was not readable, if help is wanted.
+/// Prints what is said of a file that was not readable, or where there is no dictionary, if help is wanted.
 pub fn tell_unread(rt: &HostRuntime, unread: Unread<'_>) {
-    if let Unread::File(path) = unread
-        && is_help_wanted(rt)
-    {
-        let is_folder = fs::metadata(rt, path).is_ok_and(|found| found.is_dir());
-        tell_help(rt, explain_unread(rt.alloc(), path, is_folder));
+    match unread {
+        Unread::File(path) if is_help_wanted(rt) => {
+            let is_folder = fs::metadata(rt, path).is_ok_and(|found| found.is_dir());
+            tell_help(rt, explain_unread(rt.alloc(), path, is_folder));
+        }
+        Unread::NoDictionary => tell_help(rt, explain_no_dictionary(rt.alloc())),
+        Unread::File(_) | Unread::Memory | Unread::SameNames => {}
     }
 }
 

@@ -78,6 +78,12 @@ fn push_unknown_hint(
         );
     }
     if context.expected == Expected::Operand {
+        if name.starts_with("/") {
+            return push_all(
+                help,
+                &["a regular expression follows an attribute: write &Name =~ before it\n"],
+            );
+        }
         if is_server_code(name) {
             return push_all(
                 help,

@@ -42,15 +42,37 @@ fn is_sign(token: Token<'_>) -> bool {
 }
 
 // Where a reader of a text is: whether in a condition, which attribute takes what follows, and whether its name is on the
-// same line.
+// same line; where the last token ended, and whether it was a sign, after which what it begins goes on.
 #[derive(Clone, Copy)]
 struct Reader {
     in_condition: bool,
     target: Option<AttrId>,
     is_on_line: bool,
+    end: usize,
+    goes_on: bool,
 }
 
 impl Reader {
+    fn new() -> Reader {
+        Reader {
+            in_condition: false,
+            target: None,
+            is_on_line: false,
+            end: 0,
+            goes_on: false,
+        }
+    }
+
+    // Goes on to a token, which may be on a later line.
+    fn reach(&mut self, text: &[u8], token: Token<'_>) {
+        let between = text.get(self.end..token.offset).unwrap_or(&[]);
+        if between.contains(&b'\n') && !self.goes_on {
+            self.is_on_line = false;
+        }
+        self.end = token.offset.saturating_add(token.octets.len());
+        self.goes_on = is_sign(token);
+    }
+
     // Reads a token, and gives the attribute that may take it. What stands on the line of an attribute's name may all be
     // part of its value, whatever signs are between.
     fn read(
@@ -131,26 +153,15 @@ impl Flows {
         let mut flows = Flows {
             flows: Vec::new(alloc),
         };
-        let mut reader = Reader {
-            in_condition: false,
-            target: None,
-            is_on_line: false,
-        };
-        let mut end = 0usize;
-        let mut goes_on = false;
+        let mut reader = Reader::new();
         for (at, token) in tokens.iter().enumerate() {
+            reader.reach(text, *token);
             let next = tokens.get(at.saturating_add(1));
-            let between = text.get(end..token.offset).unwrap_or(&[]);
-            if between.contains(&b'\n') && !goes_on {
-                reader.is_on_line = false;
-            }
             if let Some(to) = reader.read(secrets, *token, next)
                 && !secrets.is_secret(to)
             {
                 flows.add_token(secrets, *token, to)?;
             }
-            end = token.offset.saturating_add(token.octets.len());
-            goes_on = is_sign(*token);
         }
         Ok(flows)
     }

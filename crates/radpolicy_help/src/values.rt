@@ -87,6 +87,32 @@ pub(crate) fn tag_hint(profile: Profile) -> &'static str {
     }
 }
 
+// The seconds of a time with its unit, as `8h`.
+fn seconds_of(value: &str) -> Option<u64> {
+    for (unit, seconds) in [("s", 1_u64), ("m", 60), ("h", 3_600), ("d", 86_400)] {
+        if let Some(digits) = value.strip_suffix(unit) {
+            return digits.parse::<u64>().ok()?.checked_mul(seconds);
+        }
+    }
+    None
+}
+
+// What to do about a number with the unit of a time.
+fn push_seconds(
+    alloc: Global,
+    help: &mut Vec<u8>,
+    kind: Kind,
+    value: &str,
+) -> Result<(), AllocError> {
+    let (Kind::Integer, Some(seconds)) = (kind, seconds_of(value)) else {
+        return Ok(());
+    };
+    let text = format!(in alloc;
+        "a number has no unit; of times it is one of seconds: write {seconds}\n"
+    )?;
+    push_all(help, &[text.as_str()])
+}
+
 // Adds the VALUE names that may have been meant, after these words.
 fn push_values(
     alloc: Global,
@@ -133,6 +159,7 @@ pub(crate) fn push_not_value(
         Some(dictionary) => match typing_of(dictionary, name) {
             Some((kind, form)) => {
                 push_form(help, profile, kind, form)?;
+                push_seconds(alloc, help, kind, value)?;
                 if kind == Kind::Addr && value.contains("/") {
                     push_all(help, &[RANGE_HINT])?;
                 }

@@ -14,7 +14,7 @@ use avp_forms::{Profile, profile_of};
 use avp_unlang::{Policy, read_policy};
 use policy_warnings::{
     Reason, Warning, answered_warnings, bare_names, count_warnings, repeated_conditions,
-    warnings_of,
+    warnings_of, written_values,
 };
 use radpolicy_common::{LineBreaks, visible_text};
 use std::alloc::{AllocError, Global};
@@ -124,6 +124,41 @@ const MODULE_COMPARISON: Advice = Advice {
     hint: "put what the module would find into the request, as Group = \"staff\"",
 };
 
+const HEXADECIMAL_NUMBER: Advice = Advice {
+    name: "hexadecimal-number",
+    found: "a number in hexadecimal that a server reads otherwise",
+    server: "a server takes the number where the attribute has tags, and here the octets; one of 64 bits is 0 there",
+    hint: "write it in decimal digits, for an attribute with tags below # profile: wider",
+};
+
+const EMPTY_TAGGED: Advice = Advice {
+    name: "empty-tagged",
+    found: "an empty text with a tag",
+    server: "a server does not send it, and here its tag is sent",
+    hint: "take the line out, or write a text",
+};
+
+const SHORT_PREFIX: Advice = Advice {
+    name: "short-prefix",
+    found: "-= of an IPv6 prefix",
+    server: "a packet may have it in fewer octets: a server removes the same prefix, and here the same octets",
+    hint: "ask for it in a condition, which compares prefixes, and remove it with !*",
+};
+
+const REPEATED_OCTET: Advice = Advice {
+    name: "repeated-octet",
+    found: "a repetition behind a letter beyond ASCII",
+    server: "a server repeats the last octet of the letter alone, and here the letter is repeated",
+    hint: "write the letter in a group, as (?:..)+",
+};
+
+const LINE_START: Advice = Advice {
+    name: "line-start",
+    found: "a ^ that matches at the beginning of each line",
+    server: "behind a line feed that ends the value a server does not match it, and here it does",
+    hint: "leave the flag m out where the value has one line, or ask for what follows the ^ too",
+};
+
 const UNUSED_ALLOWANCE: Advice = Advice {
     name: "unused-allow",
     found: "the comment silences no warning",
@@ -151,6 +186,11 @@ fn advice_on(reason: Reason) -> Advice {
         Reason::BareName => BARE_NAME,
         Reason::VirtualAttribute => VIRTUAL_ATTRIBUTE,
         Reason::ModuleComparison => MODULE_COMPARISON,
+        Reason::HexadecimalNumber => HEXADECIMAL_NUMBER,
+        Reason::EmptyTagged => EMPTY_TAGGED,
+        Reason::ShortPrefix => SHORT_PREFIX,
+        Reason::RepeatedOctet => REPEATED_OCTET,
+        Reason::LineStart => LINE_START,
     }
 }
 
@@ -189,6 +229,7 @@ fn all_findings(
     add_warned(&mut found, &count_warnings(alloc, statements)?)?;
     add_warned(&mut found, &repeated_conditions(alloc, statements)?)?;
     add_warned(&mut found, &bare_names(alloc, dictionary, text)?)?;
+    add_warned(&mut found, &written_values(alloc, dictionary, text)?)?;
     add_warned(
         &mut found,
         &answered_warnings(alloc, dictionary, statements)?,

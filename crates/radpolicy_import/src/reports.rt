@@ -56,7 +56,8 @@ pub struct ServerDifference {
     pub advice: Advice,
 }
 
-// Whether a server does otherwise where a policy has this warning.
+// Whether a server does otherwise where a policy has this warning. Of values and regular expressions the import tells
+// that itself, by what the server's own text has.
 fn is_of_server(name: &str) -> bool {
     matches!(
         name,

@@ -4,8 +4,9 @@ ghost use Rattle.std.specs.Prelude.{◌≤◌, length};
 
 use crate::addresses::octal_address;
 use crate::choices::sole_choice;
+use crate::hexadecimal::meant_text;
 use crate::operands::{Operand, after_blanks, next_operand, next_pattern, relation};
-use crate::patterns::{WrittenPattern, match_sign, pattern_text};
+use crate::patterns::{WrittenPattern, by_octets, match_sign, pattern_text};
 use crate::reasons::{Reason, Refusal};
 use crate::references::{
     Names, Reference, has_texts, is_address, is_number, kind_of, reference_of,
@@ -21,7 +22,7 @@ use avp_unlang::{
     Comparand, Comparison, GroupMatching, Items, Matching, Part, Relation, TextComparison, TextSide,
 };
 use server_configuration::Quote;
-use std::alloc::Global;
+use std::alloc::{AllocError, Global};
 
 /// The most octets of a condition.
 const MAX_CONDITION: usize = 4_096;
@@ -52,8 +53,9 @@ pub struct ConditionReader<'a> {
     pub codes: KnownCodes,
     /// Whether comparisons with regular expressions are taken, and what they capture.
     pub takes_patterns: bool,
-    /// Whether a part of an address that begins with `0` is octal, as a server reads it.
-    pub reads_octal: bool,
+    /// Whether what policies read otherwise is what a server takes it for: parts of addresses that begin with `0`, which
+    /// are octal, numbers and octets in hexadecimal, and letters beyond ASCII that a regular expression repeats.
+    pub is_meant: bool,
 }
 
 // How deep a part of a condition is, and how many parts may follow.
@@ -143,11 +145,16 @@ impl<'a> ConditionReader<'a> {
     // The value that a text is.
     fn value_of_text(&self, named: Named, text: &[u8]) -> Result<Value, Refusal> {
         let dictionary = self.names.dictionary;
-        if self.reads_octal
+        if self.is_meant
             && is_address(dictionary, named)
             && let Some(address) = octal_address(text)?
         {
             return Ok(Value::Addr(address));
+        }
+        if self.is_meant
+            && let Some(meant) = meant_text(self.alloc, dictionary, named, text)?
+        {
+            return Ok(dictionary.value_of_text(self.alloc, named, &meant)?);
         }
         Ok(dictionary.value_of_text(self.alloc, named, text)?)
     }
@@ -597,6 +604,15 @@ impl<'a> ConditionReader<'a> {
         }
     }
 
+    // The text of a regular expression.
+    fn pattern(&self, pattern: WrittenPattern<'_>) -> Result<Octets, AllocError> {
+        let text = pattern_text(self.alloc, pattern.octets)?;
+        if self.is_meant {
+            return Ok(Octets::from_vec(by_octets(self.alloc, &text)?));
+        }
+        Ok(Octets::from_vec(text))
+    }
+
     // The search of an attribute for a regular expression.
     fn matching(
         &self,
@@ -607,13 +623,12 @@ impl<'a> ConditionReader<'a> {
         if found.named.raw {
             return Err(Refusal::LeftOut(Reason::MatchedRaw));
         }
-        let text = pattern_text(self.alloc, pattern.octets)?;
         Ok(Matching {
             list: found.list,
             id: found.named.id,
             selection: Selection::All,
             negated,
-            pattern: Octets::from_vec(text),
+            pattern: self.pattern(pattern)?,
             flags: pattern.flags,
         })
     }
@@ -625,11 +640,10 @@ impl<'a> ConditionReader<'a> {
         negated: bool,
         pattern: WrittenPattern<'_>,
     ) -> Result<ServerCondition, Refusal> {
-        let text = pattern_text(self.alloc, pattern.octets)?;
         Ok(ServerCondition::MatchGroup(GroupMatching {
             group,
             negated,
-            pattern: Octets::from_vec(text),
+            pattern: self.pattern(pattern)?,
             flags: pattern.flags,
         }))
     }

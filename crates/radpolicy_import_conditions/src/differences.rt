@@ -19,6 +19,9 @@ pub enum Difference {
     TaggedOctets,
     #[error("on a server a date is one of its own zone")]
     DateZone,
+    /// Put into a text or searched.
+    #[error("on a server a date has a text of its own zone")]
+    PrintedDate,
     /// Where both texts that are compared are digits, which may have a sign before them.
     #[error("on a server texts of digits are numbers of 64 bits, also behind a -")]
     TextNumbers,
@@ -36,23 +39,32 @@ pub enum Difference {
     /// As `%{explode:..}` does.
     #[error("on a server the expansion changes attributes")]
     ChangedList,
+    /// The digits before the `x`.
+    #[error("on a server 0x and digits are 0 for an attribute of type integer64")]
+    HexadecimalNumber,
+    /// Where the attribute's numbers have tags, and the text keeps its meaning here.
+    #[error("on a server 0x and digits are a number, and here they are octets")]
+    HexadecimalOctets,
 }
 
 impl Difference {
-    /// Its name, and that of the row of docs/SERVER.md; none of those with regular expressions.
+    /// Its name, and that of the row of docs/SERVER.md; none of most of those with regular expressions.
     pub fn name(self) -> Option<&'static str> {
         match self {
-            Difference::Pattern(_) => None,
+            Difference::Pattern(difference) => difference.name(),
             Difference::LongText => Some("long-text"),
             Difference::LongExpansion => Some("long-expansion"),
             Difference::TaggedOctets => Some("tagged-octets"),
-            Difference::DateZone => Some("date-zone"),
+            Difference::DateZone | Difference::PrintedDate => Some("date-zone"),
             Difference::TextNumbers => Some("text-numbers"),
             Difference::EscapedOctets => Some("escaped-octets"),
             Difference::EmptyTagged => Some("empty-tagged"),
             Difference::ShortPrefix => Some("short-prefix"),
             Difference::DottedAddress => Some("dotted-address"),
             Difference::ChangedList => Some("changed-list"),
+            Difference::HexadecimalNumber | Difference::HexadecimalOctets => {
+                Some("hexadecimal-number")
+            }
         }
     }
 }

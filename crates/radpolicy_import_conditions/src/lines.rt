@@ -46,6 +46,8 @@ pub struct UpdateLine {
     pub is_escaped: bool,
     /// Whether an IPv6 address or prefix is put into it.
     pub prints_address: bool,
+    /// Whether a date is put into it.
+    pub prints_date: bool,
     /// What else a server does otherwise with it.
     pub difference: Option<Difference>,
 }
@@ -61,6 +63,7 @@ fn plain_line(text: Vec<u8>) -> UpdateLine {
         tagged: None,
         is_escaped: false,
         prints_address: false,
+        prints_date: false,
         difference: None,
     }
 }
@@ -177,8 +180,8 @@ impl<'a> LineReader<'a> {
         }
     }
 
-    // What a server does otherwise with a text for an attribute in a reply, where it becomes too long.
-    fn cut_when_sent(
+    /// What a server does otherwise with a text for an attribute in a reply, where it becomes too long.
+    pub(crate) fn cut_when_sent(
         &self,
         list: List,
         named: Named,
@@ -203,6 +206,8 @@ impl<'a> LineReader<'a> {
             self.push_address(out, target, address)?;
             return Ok(PutIn::nothing());
         }
+        let meant = self.meant_value(target, value)?;
+        let value = meant.as_ref().unwrap_or(value);
         let octets = value.octets.as_slice();
         match value.quote {
             Quote::Double => return self.push_text(out, target, octets),
@@ -347,7 +352,8 @@ impl<'a> LineReader<'a> {
                 && !target.named.raw
                 && kind_of(self.names.dictionary, target.named) == Kind::Bytes,
             prints_address: put_in.addresses,
-            difference: self.cut_when_sent(target.list, target.named, operator, put_in),
+            prints_date: put_in.dates,
+            difference: self.value_difference(&target, operator, value, put_in),
             ..plain_line(text)
         })
     }
@@ -371,7 +377,8 @@ impl<'a> LineReader<'a> {
             return Ok(None);
         }
         let octets = octets_before_expansions(self.alloc, &self.names, value)?;
-        if octets.starts_with(b"0x") && reads_digits(self.names.dictionary, target.named) {
+        let is_digits = matches!(octets.as_slice(), [b'0', b'x' | b'X', ..]);
+        if is_digits && reads_digits(self.names.dictionary, target.named) {
             return Ok(None);
         }
         let most = self.names.dictionary.greatest_length(target.named.id);
@@ -536,6 +543,7 @@ impl<'a> LineReader<'a> {
             is_wider: put_in.captures || put_in.meanings,
             captures: put_in.captures,
             prints_address: put_in.addresses,
+            prints_date: put_in.dates,
             difference: self.filled_difference(name, operator, put_in),
             ..plain_line(text)
         }))

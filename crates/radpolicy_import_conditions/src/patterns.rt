@@ -34,11 +34,24 @@ pub enum PatternDifference {
     LineBreak,
     #[error("on a server ^ does not match behind a line feed at the end")]
     LineStart,
+    #[error("on a server a repetition after a letter beyond ASCII is of its last octet alone")]
+    RepeatedOctet,
     #[error("on a server %% is one %, and a letter behind a % makes it what that stands for")]
     Percent,
     /// The policy begins with nothing captured.
     #[error("on a server %{{0}} to %{{9}} may be of a comparison before, or of one that is left out")]
     Earlier,
+}
+
+impl PatternDifference {
+    /// Its name, if it has one.
+    pub fn name(self) -> Option<&'static str> {
+        match self {
+            PatternDifference::LineStart => Some("line-start"),
+            PatternDifference::RepeatedOctet => Some("repeated-octet"),
+            _ => None,
+        }
+    }
 }
 
 /// A regular expression as it is written between slashes, and its flags.
@@ -97,6 +110,39 @@ pub(crate) fn pattern_text(alloc: Global, octets: &[u8]) -> Result<Vec<u8>, Allo
         }
         text.push(*octet)?;
         is_escaped = *octet == b'\\' && !is_escaped;
+    }
+    Ok(text)
+}
+
+// The escapes of octets, as `\xc3\xa9`.
+fn push_escapes(out: &mut Vec<u8>, octets: &[u8]) -> Result<(), AllocError> {
+    for octet in octets {
+        out.extend_from_slice(b"\\x")?;
+        out.extend_from_slice(hex::encode(*out.allocator(), &[*octet])?.as_bytes())?;
+    }
+    Ok(())
+}
+
+/// A regular expression with its octets in place of each letter beyond ASCII that is repeated: of these a repetition is
+/// that of the last here too.
+pub(crate) fn by_octets(alloc: Global, pattern: &[u8]) -> Result<Vec<u8>, AllocError> {
+    let mut text = Vec::new(alloc);
+    let mut from = 0usize;
+    let mut is_in_class = false;
+    for place in 0..pattern.len() {
+        if place < from {
+            continue;
+        }
+        let rest = pattern.split_at(place).1;
+        let piece = next_piece(rest, is_in_class, false);
+        let octets = rest.split_at(piece.length.min(rest.len())).0;
+        if piece.difference == Some(PatternDifference::RepeatedOctet) {
+            push_escapes(&mut text, octets)?;
+        } else {
+            text.extend_from_slice(octets)?;
+        }
+        is_in_class = piece.is_in_class;
+        from = place.saturating_add(piece.length);
     }
     Ok(text)
 }
@@ -209,6 +255,68 @@ fn flags_changed(text: &[u8]) -> Option<PatternDifference> {
     None
 }
 
+// Whether the flag `m` is set by flags that follow a `(?`, where it was set before or not, and whether these are alone
+// between brackets.
+fn flag_after(flags: &[u8], before: bool) -> (bool, bool) {
+    let mut is_set = before;
+    let mut is_negated = false;
+    for octet in flags {
+        match *octet {
+            b'-' => is_negated = true,
+            b'm' => is_set = !is_negated,
+            b'a'..=b'z' | b'A'..=b'Z' => {}
+            other => return (is_set, other == b')'),
+        }
+    }
+    (is_set, false)
+}
+
+// Whether the flag `m` is set: at a place of a regular expression, and behind each of the groups that are open there.
+#[derive(Drop)]
+struct MultiLine {
+    is_set: bool,
+    outer: Vec<bool>,
+}
+
+impl MultiLine {
+    // Passes the part that a text begins with, outside of classes.
+    fn pass(&mut self, text: &[u8]) -> Result<(), AllocError> {
+        let before = self.is_set;
+        match text {
+            [b'(', b'?', flags @ ..] => {
+                let (is_set, are_alone) = flag_after(flags, before);
+                self.outer.push(if are_alone { is_set } else { before })?;
+                self.is_set = is_set;
+            }
+            [b'(', ..] => self.outer.push(before)?,
+            [b')', ..] => self.is_set = self.outer.pop().unwrap_or(before),
+            _ => {}
+        }
+        Ok(())
+    }
+}
+
+// Whether an octet goes on with a letter of UTF-8 that one before it began.
+fn goes_on(octet: u8) -> bool {
+    octet & 0xc0 == 0x80
+}
+
+// How long the letter beyond ASCII is that a text begins with, if a repetition follows it.
+fn repeated_letter(text: &[u8]) -> Option<usize> {
+    let (first, rest) = text.split_first()?;
+    let end = rest.iter().position(|octet| !goes_on(*octet))?;
+    let is_repeated = matches!(rest.split_at(end).1, [b'*' | b'+' | b'?' | b'{', ..]);
+    (!first.is_ascii() && is_repeated).then_some(end.saturating_add(1))
+}
+
+// What begins with an octet beyond ASCII.
+fn beyond_ascii(text: &[u8]) -> (Option<PatternDifference>, usize) {
+    match repeated_letter(text) {
+        Some(length) => (Some(PatternDifference::RepeatedOctet), length),
+        None => (None, 1),
+    }
+}
+
 // What begins with a `{`.
 fn braces(text: &[u8]) -> Option<PatternDifference> {
     let (counts, _) = text.split_at_checked(length_past(text, b'}'))?;
@@ -226,6 +334,10 @@ fn outside(text: &[u8], is_multi_line: bool) -> Piece {
         [b'*' | b'+' | b'?' | b'}', b'+', ..] => (Some(PatternDifference::Possessive), 2, false),
         [b'$', ..] if !is_multi_line => (Some(PatternDifference::LineFeed), 1, false),
         [b'^', ..] if is_multi_line => (Some(PatternDifference::LineStart), 1, false),
+        [0x80..=0xff, ..] => {
+            let (difference, length) = beyond_ascii(text);
+            (difference, length, false)
+        }
         _ => (None, 1, false),
     };
     Piece {
@@ -269,12 +381,20 @@ fn add_differences_of(
 ) -> Result<(), AllocError> {
     let mut from = 0usize;
     let mut is_in_class = false;
+    let mut multi_line = MultiLine {
+        is_set: flags.multi_line,
+        outer: Vec::new(*found.allocator()),
+    };
     for place in 0..text.len() {
         if place < from {
             continue;
         }
-        let piece = next_piece(text.split_at(place).1, is_in_class, flags.multi_line);
+        let rest = text.split_at(place).1;
+        let piece = next_piece(rest, is_in_class, multi_line.is_set);
         add_difference(found, piece.difference)?;
+        if !is_in_class {
+            multi_line.pass(rest)?;
+        }
         is_in_class = piece.is_in_class;
         from = place.saturating_add(piece.length);
     }

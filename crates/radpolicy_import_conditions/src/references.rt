@@ -218,6 +218,11 @@ pub(crate) fn is_ipv6(dictionary: &Dictionary, id: AttrId) -> bool {
     )
 }
 
+/// Whether an attribute's values are dates, which have texts of their own in the wider profile.
+pub(crate) fn is_date(dictionary: &Dictionary, id: AttrId) -> bool {
+    matches!(dictionary.form(id), Some(Form::Date))
+}
+
 /// The type of an attribute's values; octets where the dictionary has none.
 pub(crate) fn kind_of(dictionary: &Dictionary, named: Named) -> Kind {
     match dictionary.by_id(named.id) {

@@ -2,11 +2,11 @@
 
 use crate::operands::Operand;
 use crate::reasons::{Reason, Refusal};
-use crate::references::{Names, Reference, is_ipv6};
+use crate::references::{Names, Reference};
 use crate::server_conditions::ServerCondition;
-use crate::texts::{Part as ServerPart, next_part, text_octets};
-use avp_dict::Dictionary;
-use avp_lists::{Octets, Selection};
+use crate::texts::{Part as ServerPart, next_part, refuse_spelled, text_octets};
+use avp_dict::{Dictionary, Form};
+use avp_lists::{AttrId, Octets, Selection};
 use avp_unlang::{Items, Part, Parts, TextComparison, TextSide};
 use std::alloc::{AllocError, Global};
 
@@ -37,6 +37,7 @@ fn expanded(part: ServerPart<'_>) -> Result<Option<Part>, Reason> {
 }
 
 fn double_parts(alloc: Global, names: &Names<'_>, text: &[u8]) -> Result<Vec<Part>, Refusal> {
+    refuse_spelled(text)?;
     let mut parts = Vec::new(alloc);
     let mut octets = Vec::new(alloc);
     let mut rest = text;
@@ -94,34 +95,55 @@ fn may_be_numbers(comparison: &TextComparison) -> bool {
     }
 }
 
-fn has_address(dictionary: &Dictionary, parts: &[Part]) -> bool {
+fn has_form(dictionary: &Dictionary, id: AttrId, forms: &[Form]) -> bool {
+    match dictionary.form(id) {
+        Some(form) => forms.iter().any(|other| *other == form),
+        None => false,
+    }
+}
+
+fn puts_in_form(dictionary: &Dictionary, parts: &[Part], forms: &[Form]) -> bool {
     parts.iter().any(|part| match part {
-        Part::Meant(_, id, _) => is_ipv6(dictionary, *id),
+        Part::Meant(_, id, _) => has_form(dictionary, *id, forms),
         _ => false,
     })
 }
 
-fn compares_address(dictionary: &Dictionary, comparison: &TextComparison) -> bool {
+fn compares_form(dictionary: &Dictionary, comparison: &TextComparison, forms: &[Form]) -> bool {
     let is_left = match &comparison.left {
-        TextSide::Text(parts) => has_address(dictionary, parts.as_slice()),
+        TextSide::Text(parts) => puts_in_form(dictionary, parts.as_slice(), forms),
         TextSide::Instance(..) => false,
     };
-    is_left || has_address(dictionary, comparison.right.as_slice())
+    is_left || puts_in_form(dictionary, comparison.right.as_slice(), forms)
+}
+
+// Whether a condition prints a value of these forms, to search it or to compare it as a text.
+fn prints(dictionary: &Dictionary, condition: &ServerCondition, forms: &[Form]) -> bool {
+    match condition {
+        ServerCondition::Match(matching) | ServerCondition::MatchText(matching) => {
+            has_form(dictionary, matching.id, forms)
+        }
+        ServerCondition::CompareTexts(comparison) => compares_form(dictionary, comparison, forms),
+        ServerCondition::Not(inner) => prints(dictionary, inner, forms),
+        ServerCondition::And(first, next) | ServerCondition::Or(first, next) => {
+            prints(dictionary, first, forms) || prints(dictionary, next, forms)
+        }
+        _ => false,
+    }
 }
 
 /// Whether a condition prints an IPv6 address or prefix, to search it or to compare it as a text.
 pub fn prints_address(dictionary: &Dictionary, condition: &ServerCondition) -> bool {
-    match condition {
-        ServerCondition::Match(matching) | ServerCondition::MatchText(matching) => {
-            is_ipv6(dictionary, matching.id)
-        }
-        ServerCondition::CompareTexts(comparison) => compares_address(dictionary, comparison),
-        ServerCondition::Not(inner) => prints_address(dictionary, inner),
-        ServerCondition::And(first, next) | ServerCondition::Or(first, next) => {
-            prints_address(dictionary, first) || prints_address(dictionary, next)
-        }
-        _ => false,
-    }
+    prints(
+        dictionary,
+        condition,
+        &[Form::Ipv6Address, Form::Ipv6Prefix],
+    )
+}
+
+/// Whether a condition prints a date, to search it or to compare it as a text.
+pub fn prints_date(dictionary: &Dictionary, condition: &ServerCondition) -> bool {
+    prints(dictionary, condition, &[Form::Date])
 }
 
 /// Whether a condition compares texts that may be numbers, which a server takes otherwise where they are long or have a

@@ -6,7 +6,7 @@ use crate::expansions::closing_brace;
 use crate::lengths::{LONGEST_TEXT, longest_text};
 use crate::reasons::{Reason, Refusal};
 use crate::references::{
-    Names, Reference, Spelling, has_texts, is_ipv6, kind_of, list_name, push_spelling,
+    Names, Reference, Spelling, has_texts, is_date, is_ipv6, kind_of, list_name, push_spelling,
     reads_digits, reference_of,
 };
 use avp_dict::{Dictionary, Kind};
@@ -46,6 +46,8 @@ pub(crate) struct PutIn {
     pub(crate) strings: bool,
     /// Whether an IPv6 address or prefix is put in.
     pub(crate) addresses: bool,
+    /// Whether a date is put in.
+    pub(crate) dates: bool,
     /// How many octets of it are written out.
     pub(crate) octets: usize,
     /// How many octets it may have at most.
@@ -61,6 +63,7 @@ impl PutIn {
             meanings: false,
             strings: false,
             addresses: false,
+            dates: false,
             octets: 0,
             most: 0,
             beginning: Beginning::Other,
@@ -123,6 +126,10 @@ pub(crate) fn expansion<'a>(names: &Names<'_>, word: &'a [u8]) -> Result<Referen
             spelling: Spelling::Asked,
             named,
         });
+    }
+    // To a server the older word for `control` is a function here, as it is written in small letters.
+    if word.starts_with(b"config:") {
+        return Err(Reason::Expansion);
     }
     match reference_of(names, word) {
         Err(Reason::OtherList | Reason::NoName) => Err(Reason::Expansion),
@@ -258,6 +265,8 @@ fn push_part(
                 strings: put_in.strings || kind_of(names.dictionary, reference.named) == Kind::Text,
                 addresses: put_in.addresses
                     || !reference.named.raw && is_ipv6(names.dictionary, reference.named.id),
+                dates: put_in.dates
+                    || !reference.named.raw && is_date(names.dictionary, reference.named.id),
                 most: put_in
                     .most
                     .saturating_add(longest_text(names.dictionary, reference.named)),
@@ -273,6 +282,16 @@ fn push_part(
             })
         }
     }
+}
+
+// Whether what an escape spells as a `%` begins what a server expands: an expansion, a letter or another `%`.
+fn spells_expansion(text: &[u8]) -> bool {
+    text.windows(5).any(|five| match five {
+        [b'\\', b'0' | b'4', b'4', b'5', next] => {
+            next.is_ascii_alphabetic() || matches!(*next, b'{' | b'%' | b'\\')
+        }
+        _ => false,
+    })
 }
 
 // How a text between double quotes begins.
@@ -299,6 +318,10 @@ pub(crate) fn push_double(
     names: &Names<'_>,
     text: &[u8],
 ) -> Result<PutIn, Refusal> {
+    // In an update a server expands what the escapes have become where there is another `%`.
+    if text.contains(&b'%') && spells_expansion(text) {
+        return Err(Refusal::LeftOut(Reason::Expansion));
+    }
     let mut put_in = PutIn {
         beginning: beginning_of(names, text)?,
         ..PutIn::nothing()
@@ -340,8 +363,18 @@ pub(crate) fn octets_before_expansions(
     }
 }
 
+/// Refuses a text of a condition in which escapes spell an expansion.
+pub(crate) fn refuse_spelled(text: &[u8]) -> Result<(), Reason> {
+    if spells_expansion(text) {
+        Err(Reason::Expansion)
+    } else {
+        Ok(())
+    }
+}
+
 // The octets of a text between double quotes without expansions.
 fn double_octets(alloc: Global, names: &Names<'_>, text: &[u8]) -> Result<Vec<u8>, Refusal> {
+    refuse_spelled(text)?;
     let mut octets = Vec::new(alloc);
     let mut rest = text;
     while let Some((part, after)) = next_part(names, rest)? {

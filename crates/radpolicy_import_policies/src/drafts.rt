@@ -6,7 +6,7 @@ ghost use Rattle.radpolicy_import_policies.specs.OriginTexts.{content_name};
 
 use avp_forms::Profile;
 use avp_unlang::Code;
-use radpolicy_import_conditions::{Difference, PatternDifference, Reason};
+use radpolicy_import_conditions::{Difference, Reason};
 use server_configuration::{Configuration, Content};
 use std::alloc::Global;
 
@@ -31,15 +31,12 @@ pub(crate) struct DraftCondition {
     pub(crate) text: Vec<u8>,
     /// The profile that it needs.
     pub(crate) profile: Profile,
-    pub(crate) differences: Vec<PatternDifference>,
+    /// What a server does otherwise with it, whatever is done before it.
+    pub(crate) differences: Vec<Difference>,
     /// Whether it looks at what was captured before it.
     pub(crate) uses_captures: bool,
     /// Whether something else was captured where it is true.
     pub(crate) captures_anew: bool,
-    /// Whether it compares texts that may be numbers.
-    pub(crate) compares_numbers: bool,
-    /// Whether it prints an IPv6 address or prefix, to search it or to compare it as a text.
-    pub(crate) prints_address: bool,
 }
 
 impl DraftCondition {
@@ -51,8 +48,6 @@ impl DraftCondition {
             differences: Vec::new(alloc),
             uses_captures: false,
             captures_anew: false,
-            compares_numbers: false,
-            prints_address: false,
         }
     }
 }

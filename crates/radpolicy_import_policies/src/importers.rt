@@ -212,7 +212,8 @@ impl<'a> Importer<'a> {
     fn warn(&mut self, place: usize, difference: Difference) -> Result<(), ImportFault> {
         let is_told = match (difference, self.warnings.last()) {
             (Difference::LongExpansion, _) => self.tells_length,
-            (Difference::EscapedOctets | Difference::DottedAddress, _) => self.tells(difference),
+            (Difference::EscapedOctets | Difference::DottedAddress | Difference::PrintedDate, _) =>
+                self.tells(difference),
             (_, Some(last)) => last.place == place && last.difference == difference,
             (_, None) => false,
         };
@@ -271,6 +272,9 @@ impl<'a> Importer<'a> {
         if line.prints_address {
             self.warn(place, Difference::DottedAddress)?;
         }
+        if line.prints_date {
+            self.warn(place, Difference::PrintedDate)?;
+        }
         match line.difference {
             Some(difference) => self.warn(place, difference),
             None => Ok(()),
@@ -297,6 +301,7 @@ impl<'a> Importer<'a> {
             tagged,
             is_escaped: _,
             prints_address: _,
+            prints_date: _,
             difference: _,
         } = line;
         if is_wider && self.wider.is_none() {
@@ -594,13 +599,7 @@ impl<'a> Importer<'a> {
             self.wider = Some(place);
         }
         for difference in &condition.differences {
-            self.warn(place, Difference::Pattern(*difference))?;
-        }
-        if condition.compares_numbers {
-            self.warn(place, Difference::TextNumbers)?;
-        }
-        if condition.prints_address {
-            self.warn(place, Difference::DottedAddress)?;
+            self.warn(place, *difference)?;
         }
         if condition.uses_captures && self.captured_else {
             self.warn(place, Difference::Pattern(PatternDifference::Earlier))?;
@@ -679,6 +678,9 @@ impl<'a> Importer<'a> {
         let mut word: &[u8] = b"if ";
         for (at, case) in cases.iter().enumerate() {
             if let Some(condition) = condition_of(chain, conditions, at) {
+                if self.reader.is_zero_alone(case.place)? {
+                    self.warn(case.place, Difference::HexadecimalNumber)?;
+                }
                 self.case_block(case, word, condition, outer)?;
                 word = b"elsif ";
             } else if chain.otherwise != Some(at) {

@@ -145,6 +145,21 @@ fn left_out(
     Ok(made)
 }
 
+// The warnings of a policy. One of the plain profile puts in a date as its number of seconds, of which policies warn.
+fn warnings_in(
+    alloc: Global,
+    is_wider: bool,
+    warnings: Vec<DraftWarning>,
+) -> Result<Vec<DraftWarning>, AllocError> {
+    let mut told = Vec::new(alloc);
+    for warning in warnings {
+        if is_wider || warning.difference != Difference::PrintedDate {
+            told.push(warning)?;
+        }
+    }
+    Ok(told)
+}
+
 // Adds a warning, with its place.
 #[tactic(auto, using(crate::proofs::FoundLines::warnings_after))]
 fn add_warning(
@@ -356,6 +371,7 @@ pub fn import_statements(
         given,
         ..
     } = importer;
+    let warnings = warnings_in(alloc, wider.is_some(), warnings)?;
     let drafts = with_profile(alloc, wider, drafts)?;
     let items = configuration.items.len();
     let marks = marks_of(alloc, items, settings.initial, statements)?;

@@ -38,7 +38,8 @@ fn add_file(
 
 // Adds the items of the file at a place, in no section.
 fn add_items(items: &mut Vec<Item>, file: usize, added: Vec<Item>) -> Result<(), AllocError>
-    ensures { OnOk result (items.new.items ≡ items.old.items ++ map (item_of_file file) added.items) }
+    ensures { OnOk result (items.new.items
+        ≡ items.old.items ++ map (item_of_file file) added.items) }
 {
     for item in added {
         items.push(Item {

@@ -13,11 +13,11 @@ use avp_forms::Profile;
 use avp_lists::List;
 use avp_unlang::{Comparison, Cond, Policy, PolicyKind, Relation, read_policy};
 use radpolicy_import_conditions::{
-    Alternative, ChosenLine, ConditionPrinter, ConditionReader, KnownCodes, LineReader, Names,
-    Operand, Reason, Refusal, ServerCode, ServerCondition, ServerList, SwitchChain, UpdateLine,
-    add_differences, alternatives, between, captures_anew, chain_of, compares_numbers,
+    Alternative, ChosenLine, ConditionPrinter, ConditionReader, Difference, KnownCodes, LineReader,
+    Names, Operand, Reason, Refusal, ServerCode, ServerCondition, ServerList, SwitchChain,
+    UpdateLine, add_differences, alternatives, between, captures_anew, chain_of, compares_numbers,
     expansions_in, has_choices, has_expansion, has_pattern, keeps_captures, list_name, meant_word,
-    parts_of, prints_address, rewritten, says, uses_captures,
+    parts_of, prints_address, prints_date, rewritten, says, uses_captures,
 };
 use radpolicy_import_texts::shown_item;
 use server_configuration::{Configuration, Content, Operator, Quote, Text, has_reference};
@@ -118,7 +118,7 @@ impl<'a> ItemReader<'a> {
             names: self.names(),
             codes,
             takes_patterns: self.settings.profile == Profile::Wider,
-            reads_octal: self.settings.meaning == Meaning::Server,
+            is_meant: self.settings.meaning == Meaning::Server,
         }
     }
 
@@ -174,6 +174,39 @@ impl<'a> ItemReader<'a> {
         self.printed(profile, &cond)
     }
 
+    // What a server does otherwise with a condition, which this text is.
+    fn differences(
+        &self,
+        text: &[u8],
+        condition: &ServerCondition,
+    ) -> Result<Vec<Difference>, Refusal> {
+        let mut patterns = Vec::new(self.alloc);
+        add_differences(&mut patterns, condition)?;
+        let mut found = Vec::new(self.alloc);
+        for difference in &patterns {
+            found.push(Difference::Pattern(*difference))?;
+        }
+        let is_zero_alone = self.reader(KnownCodes::unknown()).has_zero_alone(text)?;
+        let others = [
+            (compares_numbers(condition), Difference::TextNumbers),
+            (
+                prints_address(self.dictionary, condition),
+                Difference::DottedAddress,
+            ),
+            (
+                prints_date(self.dictionary, condition),
+                Difference::PrintedDate,
+            ),
+            (is_zero_alone, Difference::HexadecimalNumber),
+        ];
+        for (is_found, difference) in others {
+            if is_found {
+                found.push(difference)?;
+            }
+        }
+        Ok(found)
+    }
+
     // The condition of the branch at a place.
     fn condition(&self, place: usize, codes: KnownCodes) -> Result<DraftCondition, Refusal> {
         let text = match self.arguments(place) {
@@ -181,8 +214,7 @@ impl<'a> ItemReader<'a> {
             [] => return Err(Refusal::LeftOut(Reason::Condition)),
         };
         let condition = self.reader(codes).condition(&text)?;
-        let mut differences = Vec::new(self.alloc);
-        add_differences(&mut differences, &condition)?;
+        let differences = self.differences(&text, &condition)?;
         let uses_captures = uses_captures(&condition);
         let profile = if has_pattern(&condition) || uses_captures || condition.compares_texts() {
             Profile::Wider
@@ -195,8 +227,6 @@ impl<'a> ItemReader<'a> {
             differences,
             uses_captures,
             captures_anew: captures_anew(&condition),
-            compares_numbers: compares_numbers(&condition),
-            prints_address: prints_address(self.dictionary, &condition),
         })
     }
 
@@ -566,6 +596,43 @@ impl<'a> ItemReader<'a> {
             .reader(KnownCodes::unknown())
             .comparison(compared, Relation::Equal, value)?;
         Ok(Some(comparison))
+    }
+
+    // Whether the case at a place compares an attribute of 64 bits with a number in hexadecimal.
+    fn has_zero_alone(&self, place: usize) -> Result<bool, Refusal> {
+        let Some(item) = self.configuration.items.get(place) else {
+            return Ok(false);
+        };
+        let (Some(switch), [case, ..]) = (item.section, self.arguments(place)) else {
+            return Ok(false);
+        };
+        let [compared, ..] = self.arguments(switch) else {
+            return Ok(false);
+        };
+        let (left, right) = (
+            self.filled(switch, &compared.octets)?,
+            self.filled(place, &case.octets)?,
+        );
+        let is_one = self.reader(KnownCodes::unknown()).is_zero_alone(
+            Operand {
+                quote: compared.quote,
+                octets: left.as_slice(),
+            },
+            Operand {
+                quote: case.quote,
+                octets: right.as_slice(),
+            },
+        )?;
+        Ok(is_one)
+    }
+
+    /// Whether a case that is kept does so.
+    pub(crate) fn is_zero_alone(&self, place: usize) -> Result<bool, ImportFault> {
+        match self.has_zero_alone(place) {
+            Ok(is_one) => Ok(is_one),
+            Err(Refusal::Memory) => Err(ImportFault::Memory),
+            Err(Refusal::LeftOut(_)) => Ok(false),
+        }
     }
 
     fn cases(&self, place: usize, cases: &[Statement]) -> Result<SwitchChain, Refusal> {

@@ -58,7 +58,9 @@ fn called(word: &[u8]) -> Option<&[u8]> {
     let name = word.split_at(colon).0;
     let is_name = name.iter().all(|octet| octet.is_ascii_alphanumeric()
         || matches!(*octet, b'_' | b'-' | b'.'));
-    if name.is_empty() || !is_name || ServerList::named(name).is_some() {
+    // A word for a list, but for one that is a function too as it is written in small letters.
+    let is_list = ServerList::named(name).is_some() && name != b"config".as_slice();
+    if name.is_empty() || !is_name || is_list {
         return None;
     }
     Some(name)

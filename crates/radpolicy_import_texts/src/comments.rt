@@ -8,10 +8,10 @@ use radpolicy_common::{LineBreaks, visible_text};
 use std::alloc::{AllocError, Global};
 
 // Whether a comment is hidden.
-fn is_hidden(hidden: Option<&SecretNames<'_>>, comment: &[u8]) -> bool {
+fn is_hidden(hidden: Option<&SecretNames<'_>>, comment: &[u8]) -> Result<bool, AllocError> {
     match hidden {
         Some(names) => names.speaks(comment),
-        None => false,
+        None => Ok(false),
     }
 }
 
@@ -26,7 +26,7 @@ fn push_line(
     };
     let (blanks, comment) = line.split_at(begin);
     out.extend_from_slice(blanks)?;
-    if is_hidden(hidden, comment) {
+    if is_hidden(hidden, comment)? {
         out.extend_from_slice(b"# ")?;
         out.extend_from_slice(HIDDEN)
     } else {

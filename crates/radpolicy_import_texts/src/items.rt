@@ -174,19 +174,16 @@ fn called(text: &[u8]) -> &[u8] {
     }
 }
 
-// Whether an item is what follows a secret value on its line, as further words of a value without quotes.
-fn follows_secret(
-    names: &SecretNames<'_>,
+// Whether an item speaks of one of these names, if there are any.
+fn speaks_of_secret(
+    hidden: Option<&SecretNames<'_>>,
     configuration: &Configuration,
     item: &Item,
-    place: usize,
-) -> bool {
-    let Some(before) = configuration.items.get(place.saturating_sub(1)) else {
-        return false;
-    };
-    matches!(&before.content, Content::Pair { .. })
-        && (item.file, item.line) == (before.file, before.line)
-        && names.item_speaks(configuration, before)
+) -> Result<bool, AllocError> {
+    match hidden {
+        Some(names) => names.item_speaks(configuration, item),
+        None => Ok(false),
+    }
 }
 
 /// What an item says, in one line and not more than the beginning of it. Where it speaks of one of the names that are
@@ -202,12 +199,12 @@ pub fn shown_item(
         return Ok(text);
     };
     if let Some(names) = hidden
-        && follows_secret(names, configuration, item, place)
+        && names.is_follower(place)
     {
         return Vec::from_slice(alloc, HIDDEN);
     }
-    let hidden = hidden.filter(|names| names.item_speaks(configuration, item));
-    push_item(&mut text, hidden, item)?;
+    let speaks = speaks_of_secret(hidden, configuration, item)?;
+    push_item(&mut text, hidden.filter(|_names| speaks), item)?;
     beginning(alloc, &text)
 }
 
@@ -221,7 +218,7 @@ pub fn shown_expansion(
     let Some(names) = hidden else {
         return visible_text(alloc, text, LineBreaks::Escaped);
     };
-    if !names.expansion_speaks(text) {
+    if !names.expansion_speaks(text)? {
         return visible_text(alloc, text, LineBreaks::Escaped);
     }
     let mut shown = visible_text(alloc, called(text), LineBreaks::Escaped)?;

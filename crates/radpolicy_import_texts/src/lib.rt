@@ -4,6 +4,7 @@
 
 mod comments;
 mod concealed;
+mod followers;
 mod items;
 mod names;
 mod words;

@@ -8,9 +8,10 @@ ghost use Rattle.avp_dict.specs.Words.{same_name};
 ghost use Rattle.radpolicy_import_texts.specs.Concealing.{is_attribute, is_colon, is_list, is_tag, names_attribute, without_list, without_tag};
 ghost use Rattle.radpolicy_import_texts.specs.SecretNames.{assigns_secret, is_copy, is_secret, names_secret};
 
+use crate::followers::followers;
 use crate::words::{is_held, is_name_octet, is_opening};
 use avp_dict::same_name;
-use radpolicy_common::{Redaction, is_secret_name};
+use radpolicy_common::{Redaction, is_secret_name, spelled_octets};
 use server_configuration::{Configuration, Content, Item, Quote, Text};
 use std::alloc::{AllocError, Global};
 use std::marker::Model;
@@ -26,6 +27,8 @@ pub struct SecretNames<'a> {
     holds: bool,
     // Whether there are more of them than are looked for, so that each value may be secret.
     all: bool,
+    // Of each item of the configuration, whether it stands behind a secret value on its line.
+    followers: Vec<bool>,
 }
 
 // How often the lines are gone over, and how many names are kept.
@@ -160,17 +163,9 @@ fn has_equals_sign(octets: &[u8]) -> bool {
     octets.contains(&b'=') || octets.windows(4).any(|four| four == b"\\075".as_slice())
 }
 
-// Whether a text may spell a key and its `=` in another way than by their own octets: by an escape of octal digits, or by
-// hexadecimal digits with those of a `=`.
-fn may_spell_key(octets: &[u8]) -> bool {
-    match octets {
-        [b'0', b'x' | b'X', digits @ ..] => {
-            digits
-                .chunks(2)
-                .any(|pair| pair.eq_ignore_ascii_case(b"3d"))
-        }
-        _ => has_octal_escape(octets) && has_equals_sign(octets),
-    }
+// Whether a text may spell a key or its `=` by an escape of octal digits.
+fn may_escape_key(octets: &[u8]) -> bool {
+    has_octal_escape(octets) && has_equals_sign(octets)
 }
 
 fn has_pattern(arguments: &[Text]) -> bool {
@@ -222,11 +217,24 @@ impl<'a> SecretNames<'a> {
     ) -> Result<SecretNames<'a>, AllocError>
         ensures { IfOk result (λ names. names.redaction ≡ redaction.now) }
     {
+        let mut names = SecretNames::with_copies(alloc, redaction, configuration)?;
+        names.followers = followers(alloc, &names, configuration)?;
+        Ok(names)
+    }
+
+    fn with_copies(
+        alloc: Global,
+        redaction: &'a Redaction<'a>,
+        configuration: &Configuration,
+    ) -> Result<SecretNames<'a>, AllocError>
+        ensures { IfOk result (λ names. names.redaction ≡ redaction.now) }
+    {
         let mut names = SecretNames {
             redaction,
             copies: Vec::new(alloc),
             holds: false,
             all: false,
+            followers: Vec::new(alloc),
         };
         for _ in 0..MOST_ROUNDS {
             let (copies, holds) = (names.copies.len(), names.holds);
@@ -251,7 +259,7 @@ impl<'a> SecretNames<'a> {
                 }
                 Content::Section { name, arguments } => {
                     if name.is(b"foreach") || has_pattern(arguments) {
-                        self.holds = self.holds || self.speak(arguments);
+                        self.holds = self.holds || self.speak(arguments)?;
                     }
                 }
                 Content::Word { .. } | Content::Include { .. } => {}
@@ -349,9 +357,21 @@ impl<'a> SecretNames<'a> {
             || (value.quote == Quote::Bare && self.names_secret(&value.octets))
     }
 
+    // The same of the octets for which hexadecimal digits in a text stand.
+    fn spells_secret(&self, octets: &[u8]) -> Result<bool, AllocError> {
+        let spelled = spelled_octets(*self.copies.allocator(), octets)?;
+        Ok(self.assigns_secret(&spelled))
+    }
+
     /// Whether octets speak of one of them.
-    pub(crate) fn speaks(&self, octets: &[u8]) -> bool {
-        self.all || self.refers(octets) || self.assigns_secret(octets) || may_spell_key(octets)
+    pub(crate) fn speaks(&self, octets: &[u8]) -> Result<bool, AllocError> {
+        Ok(
+            self.all
+                || self.refers(octets)
+                || self.assigns_secret(octets)
+                || may_escape_key(octets)
+                || self.spells_secret(octets)?,
+        )
     }
 
     // Whether one of a text's words is the number of an attribute that the dictionary does not describe: nobody knows what
@@ -362,48 +382,70 @@ impl<'a> SecretNames<'a> {
             .any(|word| is_numbered(word) && !self.is_attribute(word))
     }
 
-    fn speaks_in(&self, text: &Text) -> bool {
-        self.speaks(&text.octets)
-            || (text.quote == Quote::Bare
-                && (self.names_secret(&text.octets) || self.names_number(&text.octets)))
+    fn speaks_in(&self, text: &Text) -> Result<bool, AllocError> {
+        let is_named = text.quote == Quote::Bare
+            && (self.names_secret(&text.octets) || self.names_number(&text.octets));
+        Ok(is_named || self.speaks(&text.octets)?)
     }
 
-    fn speak(&self, texts: &[Text]) -> bool {
-        texts.iter().any(|text| self.speaks_in(text))
+    fn speak(&self, texts: &[Text]) -> Result<bool, AllocError> {
+        for text in texts {
+            if self.speaks_in(text)? {
+                return Ok(true);
+            }
+        }
+        Ok(false)
     }
 
     /// Whether the text between the braces of an expansion speaks of one of them.
-    pub(crate) fn expansion_speaks(&self, octets: &[u8]) -> bool {
-        self.speaks(octets) || self.begins(octets)
+    pub(crate) fn expansion_speaks(&self, octets: &[u8]) -> Result<bool, AllocError> {
+        Ok(self.begins(octets) || self.speaks(octets)?)
     }
 
     // Whether an item is a case of a `switch` by one of them.
-    fn is_case_of_secret(&self, configuration: &Configuration, item: &Item) -> bool {
+    fn is_case_of_secret(
+        &self,
+        configuration: &Configuration,
+        item: &Item,
+    ) -> Result<bool, AllocError> {
         match section_of(configuration, item, b"switch") {
             Some(section) => match &section.content {
                 Content::Section { arguments, .. } => self.speak(arguments),
-                _ => false,
+                _ => Ok(false),
             },
-            None => false,
+            None => Ok(false),
         }
     }
 
+    /// Whether the item at a place stands behind a secret value on its line, as further words of a value without quotes.
+    pub(crate) fn is_follower(&self, place: usize) -> bool {
+        matches!(self.followers.get(place), Some(true))
+    }
+
     /// Whether an item speaks of one of them, so that its values are hidden.
-    pub(crate) fn item_speaks(&self, configuration: &Configuration, item: &Item) -> bool {
+    pub(crate) fn item_speaks(
+        &self,
+        configuration: &Configuration,
+        item: &Item,
+    ) -> Result<bool, AllocError> {
         match &item.content {
             Content::Pair { name, value, .. } => {
-                self.speaks_in(name)
-                    || match value {
-                        Some(value) => self.speaks_in(value),
-                        None => false,
-                    }
+                if self.speaks_in(name)? {
+                    return Ok(true);
+                }
+                match value {
+                    Some(value) => self.speaks_in(value),
+                    None => Ok(false),
+                }
             }
             Content::Section { name, arguments } | Content::Word { name, arguments } => {
-                self.speaks_in(name)
-                    || self.speak(arguments)
-                    || self.is_case_of_secret(configuration, item)
+                Ok(
+                    self.speaks_in(name)?
+                        || self.speak(arguments)?
+                        || self.is_case_of_secret(configuration, item)?,
+                )
             }
-            Content::Include { .. } => false,
+            Content::Include { .. } => Ok(false),
         }
     }
 }

@@ -5,7 +5,7 @@ pub const BEFORE_LISTS: &str = "<!doctype html>
 <html lang=\"en\">
 <head>
 <meta charset=\"utf-8\">
-<meta http-equiv=\"Content-Security-Policy\" content=\"default-src 'none'; style-src 'sha256-8gDn2WSib/mwPqKT1lA4YblnbDJUu+0rwiOrXqTFyqQ='; script-src 'sha256-aQIb88K245kRgpSKDsdbBsiGwN+3gzk3XpsrjJioEn4='; base-uri 'none'; form-action 'none'\">
+<meta http-equiv=\"Content-Security-Policy\" content=\"default-src 'none'; style-src 'sha256-8gDn2WSib/mwPqKT1lA4YblnbDJUu+0rwiOrXqTFyqQ='; script-src 'sha256-qf6EpbYuWOmsAzof3fHqotia/DZtlv+R1Z3r7evSgHQ='; base-uri 'none'; form-action 'none'\">
 <meta name=\"viewport\" content=\"width=device-width, initial-scale=1\">
 <meta name=\"color-scheme\" content=\"light dark\">
 <title>radpolicy: a run, step by step</title>
@@ -219,7 +219,7 @@ pub const AFTER_DATA: &str = "</script>
     for (let k = i + step; k >= 0 && k < lines.length; k += step) if (statements[k] !== undefined) return statements[k];
     return true;
   };
-  const hasRun = i => statements[i] !== undefined ? statements[i] : near(i, /^\\s*\\}\\s*$/.test(lines[i]) ? -1 : 1);
+  const hasRun = i => statements[i] !== undefined ? statements[i] : near(i, /^\\s*\\}\\s*(#.*)?$/.test(lines[i]) ? -1 : 1);
 
   const policyRows = lines.map((line, i) => {
     const it = made(\"li\", hasRun(i) ? \"\" : \"idle\");

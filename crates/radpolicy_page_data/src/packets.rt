@@ -10,7 +10,7 @@ use crate::json::{push_number, push_string, push_two_digits};
 use avp_dict::is_container;
 use avp_lists::{AttrId, Pair};
 use radpolicy::Reply;
-use radpolicy_common::{Redaction, SecretValues, sends_hidden_proxy_state};
+use radpolicy_common::{PROXY_STATE, Redaction, SecretValues, sends_hidden_proxy_state};
 use std::alloc::AllocError;
 
 /// A spot in a packet.
@@ -27,8 +27,6 @@ pub enum Spot {
     /// Before so many octets of a value that may be hidden.
     Value(u8, bool),
 }
-
-const PROXY_STATE: u8 = 33;
 
 // The type with which an attribute is sent.
 fn type_of(id: AttrId) -> u32

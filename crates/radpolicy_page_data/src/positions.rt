@@ -58,7 +58,8 @@ fn push_splice(
     splice: &Splice<'_>,
 ) -> Result<(), AllocError>
     requires { AllFit redaction.now.dictionary splice.now.came.now }
-    ensures { OnOk result (text.new.items ≡ text.old.items ++ splice_text redaction.now splice.now) }
+    ensures { OnOk result (text.new.items
+        ≡ text.old.items ++ splice_text redaction.now splice.now) }
 {
     text.extend_from_slice(b"[")?;
     push_number(text, splice.at)?;

@@ -17,7 +17,7 @@ use Rattle.radpolicy.specs.declared.faults.Fault.{Fault}
 use Rattle.radpolicy.specs.declared.faults.Fault.TheVariants as fault
 use Rattle.radpolicy_record_answers.specs.Captured.{AreSameReplies, compared_pairs, packet_or_fault, reply_to, same_replies}
 use Rattle.radpolicy_record_answers.specs.Comparisons.{same_lists}
-use Rattle.radpolicy_record_answers.specs.Requests.{answered_from, started}
+use Rattle.radpolicy_record_answers.specs.Requests.{answered_from, request_read, started}
 use Rattle.radpolicy_record_answers.specs.declared.comparisons.Comparison.{Comparison}
 use Rattle.radpolicy_record_answers.specs.declared.requests.RecordRequest.{RecordRequest}
 use Rattle.radpolicy_record_answers.specs.internal.Fitting.{HasHead}
@@ -62,6 +62,9 @@ reply_unread dictionary secret request octets f is = unread (decoded_reply dicti
 
 pub unchecked_unread : (dictionary : Dictionary) (octets : List ℕ) (f : Fault) → IsUnreadPacket (decoded_reply_unchecked dictionary octets) f → MemoryOr (λ g. packet_or_fault (decoded_reply_unchecked dictionary octets) ≡ Err g) f
 unchecked_unread dictionary octets f is = unread (decoded_reply_unchecked dictionary octets) f is
+
+pub request_unread : (dictionary : Dictionary) (secret : Option (List ℕ)) (octets : List ℕ) (f : Fault) → IsUnreadPacket (request_read dictionary secret octets) f → MemoryOr (λ g. packet_or_fault (request_read dictionary secret octets) ≡ Err g) f
+request_unread dictionary secret octets f is = unread (request_read dictionary secret octets) f is
 
 -- ---- replies that are the same
 

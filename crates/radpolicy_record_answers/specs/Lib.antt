@@ -7,6 +7,7 @@ pub mod PacketLines
 pub mod RecordLines
 pub mod Records
 pub mod Requests
+pub mod ShownRequests
 pub mod TextEntries
 pub mod UnmadeReplies
 pub mod internal

@@ -32,7 +32,7 @@ use avp_packet::{
     Packet, decode_reply, decode_reply_unchecked,
 };
 use radpolicy::{Fault, Reply, RunOutcome, Runner, Secret};
-use radpolicy_common::Redaction;
+use radpolicy_common::{PROXY_STATE, Redaction};
 use radpolicy_traffic_packets::TextFault;
 use std::alloc::{AllocError, Global};
 
@@ -430,8 +430,7 @@ pub fn replies_to<'p: 'a, 'a>(
 
 // ---- the same
 
-/// Proxy-State (RFC 2865, section 5.33).
-const PROXY_STATE: AttrId = AttrId::Plain(33);
+const PROXY_STATE_ID: AttrId = AttrId::Plain(PROXY_STATE as u32);
 
 // The attributes that are not compared, before those that are ignored.
 fn left_out(alloc: Global, order: Order) -> Result<Vec<AttrId>, AllocError>
@@ -439,7 +438,7 @@ fn left_out(alloc: Global, order: Order) -> Result<Vec<AttrId>, AllocError>
 {
     match order {
         Order::Ordered => Ok(Vec::new(alloc)),
-        Order::ByName => Vec::from_slice(alloc, &[PROXY_STATE, MESSAGE_AUTHENTICATOR]),
+        Order::ByName => Vec::from_slice(alloc, &[PROXY_STATE_ID, MESSAGE_AUTHENTICATOR]),
     }
 }
 

@@ -52,7 +52,7 @@ pub struct Comparison<'a> {
     pub shows_replies: bool,
 }
 
-fn has_id(ids: &[AttrId], id: AttrId) -> bool
+pub(crate) fn has_id(ids: &[AttrId], id: AttrId) -> bool
     ensures { result ≡ list_any (id_eq id) ids.now }
 {
     ids.iter().any(|other| id.equals(*other))

@@ -11,6 +11,7 @@ mod packet_lines;
 mod record_lines;
 mod records;
 mod requests;
+mod shown_requests;
 mod text_entries;
 mod unmade_replies;
 mod verdicts;
@@ -25,7 +26,10 @@ pub use comparisons::{Against, Comparison, Order, Told, compared, same_lists};
 pub use differences::{Printer, verdict_of_same};
 pub use entries::{Entry, answer_over, entry_answer, entry_of_line};
 pub use record_lines::run_of;
-pub use records::{MAX_LINE_OCTETS, is_packet_word, push_name, request_octets, source_of};
+pub use records::{
+    MAX_LINE_OCTETS, is_packet_word, line_identifier, push_name, request_octets, source_of,
+};
 pub use requests::{RecordRequest, RecordSecret};
-pub use text_entries::{entry_of_record, text_source};
+pub use shown_requests::{Shown, push_in_row};
+pub use text_entries::{entry_of_record, text_identifier, text_source};
 pub use verdicts::Verdict;

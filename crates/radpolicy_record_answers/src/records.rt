@@ -245,9 +245,9 @@ pub fn push_name(text: &mut Vec<u8>, number: u64, name: &[u8]) -> Result<(), All
     Ok(())
 }
 
-/// The identifier of a line.
+/// The identifier of a line: the word that names its record, as it is shown, and a space. Empty where it has none.
 #[tactic(auto, unfolding(crate::specs::Records::line_identifier))]
-pub(crate) fn line_identifier(alloc: Global, line: &[u8]) -> Result<Vec<u8>, AllocError>
+pub fn line_identifier(alloc: Global, line: &[u8]) -> Result<Vec<u8>, AllocError>
     ensures { IfOk result (λ text. text.items ≡ line_identifier line.now) }
 {
     if line.len() > MAX_LINE_OCTETS {

@@ -19,7 +19,8 @@ use radpolicy_traffic_packets::{TextFault, reply_packet, request_packet};
 use std::alloc::{AllocError, Global};
 use std::net::IpAddr;
 
-fn text_identifier(alloc: Global, identifier: &[u8]) -> Result<Vec<u8>, AllocError>
+/// What names a record of attribute lines, as it is shown, and a space. Empty where nothing names it.
+pub fn text_identifier(alloc: Global, identifier: &[u8]) -> Result<Vec<u8>, AllocError>
     ensures { IfOk result (λ text. text.items ≡ text_identifier identifier.now) }
 {
     let mut text = Vec::new(alloc);

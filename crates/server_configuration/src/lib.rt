@@ -10,6 +10,7 @@ mod items;
 mod lookups;
 mod paths;
 mod reader;
+mod reading;
 mod references;
 mod sources;
 mod statements;
@@ -17,9 +18,10 @@ mod texts;
 
 pub use configurations::Configuration;
 pub use faults::{ConfigurationFault, Fault, FaultKind};
-pub use includes::{MAX_CONFIGURATION_OCTETS, MAX_DEPTH, MAX_FILES, read_configuration};
+pub use includes::{MAX_CONFIGURATION_OCTETS, MAX_DEPTH, MAX_FILES};
 pub use items::{Content, Item, Operator, Quote, Text};
 pub use reader::{MAX_ITEMS, MAX_OCTETS, read_items};
+pub use reading::read_configuration;
 pub use references::{
     MAX_REFERENCE_DEPTH, MAX_REFERENCES, ReferenceFault, ReferenceFaultKind, Referent, Variable,
     has_reference,

@@ -122,7 +122,8 @@ fn push_word<S: Store>(
     word: ScriptWord,
 ) -> Result<(), AllocError>
     requires { stepper.old.dictionary ≡ dictionary.now }
-    ensures text { OnOk result (text.new.items ≡ text.old.items ++ word_text profile word stepper.old) }
+    ensures text { OnOk result (text.new.items
+        ≡ text.old.items ++ word_text profile word stepper.old) }
     ensures after { OnOk result (stepper.new ≡ after_script_word word stepper.old) }
 {
     match word {

@@ -24,7 +24,7 @@ fn reader(alloc: Global, dictionary: &Dictionary) -> ConditionReader<'_> {
         },
         codes: KnownCodes::of_section(b"authorize"),
         takes_patterns: true,
-        reads_octal: true,
+        is_meant: true,
     }
 }
 

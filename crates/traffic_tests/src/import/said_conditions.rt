@@ -19,7 +19,7 @@ fn condition(alloc: Global, dictionary: &Dictionary, text: &[u8]) -> Result<Cond
         },
         codes: KnownCodes::unknown(),
         takes_patterns: true,
-        reads_octal: true,
+        is_meant: true,
     };
     match reader.condition(text) {
         Ok(condition) => Ok(rewritten(alloc, &condition)?),
