@@ -7,6 +7,7 @@ pub mod cursors;
 pub mod first_tokens;
 pub mod lines;
 pub mod meanings;
+pub mod operands;
 pub mod parts;
 pub mod pattern_tokens;
 pub mod patterns;

@@ -13,8 +13,8 @@ ghost use Rattle.avp_unlang.specs.declared.faults.PolicyKind.TheVariants.{Memory
 
 use crate::faults::{PolicyKind, Position, Refusal, refused_at};
 use crate::meaning::truth::octets_meant;
-use crate::text::conditions::{expansion_refusal, has_expansion};
 use crate::text::cursors::{Cursor, Read};
+use crate::text::operands::{expansion_refusal, has_expansion};
 use crate::text::references::{Reference, alike};
 use crate::text::selecting::selection_of;
 use crate::text::tokens::{Excerpt, Sign, Token};

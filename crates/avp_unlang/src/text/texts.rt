@@ -11,8 +11,8 @@ ghost use Rattle.avp_unlang.specs.declared.tree.TextSide.TheVariants as side;
 
 use crate::faults::{PolicyKind, Position, Refusal, refused_at};
 use crate::items::Items;
-use crate::text::conditions::has_expansion;
 use crate::text::cursors::{Cursor, Read};
+use crate::text::operands::has_expansion;
 use crate::text::parts::{only_word, parts};
 use crate::text::patterns::pattern_text;
 use crate::text::references::{Reference, readable};

@@ -3,7 +3,7 @@ use Rattle.avp_forms.specs.declared.profiles.Profile.TheVariants.{Wider}
 use Rattle.avp_unlang.specs.Conditions.{matcher_in, relation_of}
 use Rattle.avp_unlang.specs.Tokens.{next_token}
 use Rattle.avp_unlang.proofs.TextsRead.{operator_reads, text_operand_reads}
-use Rattle.avp_unlang.proofs.text.conditions.text_operand.Goals as goal
+use Rattle.avp_unlang.proofs.text.operands.text_operand.Goals as goal
 
 pub returns-in-Some-relation_of-clause-read : goal.returns-in-Some-relation_of-clause-read
 returns-in-Some-relation_of-clause-read c =

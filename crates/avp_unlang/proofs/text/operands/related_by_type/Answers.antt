@@ -2,7 +2,7 @@ use Rattle.avp_unlang.specs.Conditions.{ComparandIs, ComparandOf, ComparedBy}
 use Rattle.avp_unlang.proofs.ConditionsOne.{Compared}
 use Rattle.avp_unlang.proofs.Determined.{exits, then_stops}
 use Rattle.avp_unlang.proofs.LinesOne.{made_refused, made_stops}
-use Rattle.avp_unlang.proofs.text.conditions.related_by_type.Goals as goal
+use Rattle.avp_unlang.proofs.text.operands.related_by_type.Goals as goal
 
 pub returns-in_err-written-clause-read : goal.returns-in_err-written-clause-read
 returns-in_err-written-clause-read c =

@@ -2,7 +2,7 @@ use Rattle.std.proofs.Common.{◌≡◌, true, sym, ap, rules, ◌∙◌}
 use Rattle.avp_unlang.specs.Conditions.{is_text, puts_in}
 use Rattle.avp_unlang.specs.Tokens.{next_token}
 use Rattle.avp_unlang.proofs.TextsRead.{alone_reads, texts_reads}
-use Rattle.avp_unlang.proofs.text.conditions.text_related.Goals as goal
+use Rattle.avp_unlang.proofs.text.operands.text_related.Goals as goal
 
 pub returns-in-Some-clause-read : goal.returns-in-Some-clause-read
 returns-in-Some-clause-read c =

@@ -2,7 +2,7 @@ use Rattle.avp_unlang.specs.Conditions.{ComparedIs}
 use Rattle.avp_unlang.specs.Forms.{Then}
 use Rattle.avp_unlang.specs.References.{ReadableIs}
 use Rattle.avp_unlang.proofs.Determined.{exits, then_stops}
-use Rattle.avp_unlang.proofs.text.conditions.referred_operand.Goals as goal
+use Rattle.avp_unlang.proofs.text.operands.referred_operand.Goals as goal
 
 pub returns-in_err-found-clause-read : goal.returns-in_err-found-clause-read
 returns-in_err-found-clause-read c =

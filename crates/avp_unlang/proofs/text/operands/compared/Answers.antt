@@ -2,7 +2,7 @@ use Rattle.std.proofs.Common.{ap, sym, ◌∙◌}
 use Rattle.avp_unlang.specs.Conditions.{matcher_in, relation_of}
 use Rattle.avp_unlang.specs.Tokens.{next_token}
 use Rattle.avp_unlang.proofs.ConditionsOne.{compared_reads}
-use Rattle.avp_unlang.proofs.text.conditions.compared.Goals as goal
+use Rattle.avp_unlang.proofs.text.operands.compared.Goals as goal
 
 pub returns-clause-read : goal.returns-clause-read
 returns-clause-read c =

@@ -1,6 +1,6 @@
 use Rattle.std.proofs.Common.{false}
 use Rattle.avp_unlang.proofs.ConditionsOne.{related_reads}
-use Rattle.avp_unlang.proofs.text.conditions.value_related.Goals as goal
+use Rattle.avp_unlang.proofs.text.operands.value_related.Goals as goal
 
 pub returns-else-is_by_meaning-clause-read : goal.returns-else-is_by_meaning-clause-read
 returns-else-is_by_meaning-clause-read c =

@@ -1,7 +1,7 @@
 use Rattle.std.proofs.Common.{true, false, ap, ◌∙◌}
 use Rattle.avp_unlang.specs.Conditions.{is_text_beside}
 use Rattle.avp_unlang.proofs.ConditionsOne.{related_as_reads}
-use Rattle.avp_unlang.proofs.text.conditions.related.Goals as goal
+use Rattle.avp_unlang.proofs.text.operands.related.Goals as goal
 
 pub returns-then-is_text_beside-clause-read : goal.returns-then-is_text_beside-clause-read
 returns-then-is_text_beside-clause-read c =

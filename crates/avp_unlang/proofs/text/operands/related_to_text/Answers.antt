@@ -1,7 +1,7 @@
 use Rattle.std.proofs.Common.{ap, sym, ◌∙◌}
 use Rattle.avp_unlang.specs.Conditions.{reference_alone}
 use Rattle.avp_unlang.proofs.TextsRead.{instance_reads, other_type_reads, other_type_tells, octets_read, octets_tell}
-use Rattle.avp_unlang.proofs.text.conditions.related_to_text.Goals as goal
+use Rattle.avp_unlang.proofs.text.operands.related_to_text.Goals as goal
 
 pub returns-in-Some-clause-read : goal.returns-in-Some-clause-read
 returns-in-Some-clause-read c =

@@ -1,7 +1,7 @@
 use Rattle.avp_unlang.specs.Conditions.{ComparandOf}
 use Rattle.avp_unlang.proofs.ConditionsOne.{plain_refused}
 use Rattle.avp_unlang.proofs.Determined.{exits_all}
-use Rattle.avp_unlang.proofs.text.conditions.comparand_of.Goals as goal
+use Rattle.avp_unlang.proofs.text.operands.comparand_of.Goals as goal
 
 pub returns-in_err-value-in-Double-clause-read : goal.returns-in_err-value-in-Double-clause-read
 returns-in_err-value-in-Double-clause-read c =
