@@ -448,7 +448,8 @@ impl<'a, 'p, S: Store> Machine<'a, 'p, S> {
     /// Each step to the end, after one that left this mark; the mark of the last one. No step can be gone back to.
     pub fn run_to_end(&mut self, first: Mark) -> Result<Mark, AllocError>
         requires ready { IsReady first self.old }
-        ensures end { IfOk result (λ last. (standing last self.new).outcome ≡ ending first self.old) }
+        ensures end { IfOk result (λ last.
+            (standing last self.new).outcome ≡ ending first self.old) }
         ensures alike { OnOk result (IsAlike self.old self.new) }
     {
         let mut last = first;

@@ -320,7 +320,8 @@ pub fn answer<O: Output>(alloc: Global, job: &Job, out: &mut O) -> Result<Outcom
     ensures done { IfOk result (λ outcome. (report : Report) × (IsReport job.now report
         × Appends (O.taken out.old) (O.taken out.new) report.text × (outcome ≡ report.outcome))) }
     ensures works { OnOk result (O.has_failed out.new ≡ false) }
-    // What a run sends is accepted as the reply to its request, and its attributes mean the pairs that are sent.
+    // What a run sends is accepted as the reply to its request, and its attributes mean the pairs
+    // that are sent.
     ensures read { OnOk result (job.now.command ≡ TheRun → IsRunRead job.now) }
     // The output failed in this call, and took a front of the report.
     ensures cut { IsErrOf result Fault.Write → (report : Report) × (IsReport job.now report
@@ -341,7 +342,8 @@ pub fn answer<O: Output>(alloc: Global, job: &Job, out: &mut O) -> Result<Outcom
     // Likewise of its policy, but for patterns that are too large, and for places in patterns.
     ensures first_of_policy { (a b : PolicyFault) → IsRefused job.now (fault.Policy a)
         → IsRefused job.now (fault.Policy b) → AreOne a b }
-    // The report of a run is the text of what its start comes to, and the run is refused where that comes to nothing.
+    // The report of a run is the text of what its start comes to, and the run is refused where that
+    // comes to nothing.
     ensures ran { job.now.command ≡ TheRun → (report : Report)
         → IsRunReport job.now report ↔ IsOutcomeReport job.now report }
     ensures too_long { job.now.command ≡ TheRun → (fault : Fault)

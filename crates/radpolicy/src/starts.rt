@@ -500,9 +500,9 @@ impl<'a> Start<'a> {
         ensures ok { IfOk result (λ outcome. outcome_of self.entry ≡ Some outcome) }
         ensures refused { IfErr result (MemoryOr (λ f. (f ≡ fault.PacketTooLong)
             × (outcome_of self.entry ≡ None))) }
-        // What is sent is accepted as the reply to its request, and means the pairs that are sent, where the initial
-        // reply list and the request's Proxy-States are read back as they are written: as all are that were read from
-        // lines or from a packet.
+        // What is sent is accepted as the reply to its request, and means the pairs that are sent,
+        // where the initial reply list and the request's Proxy-States are read back as they are
+        // written: as all are that were read from lines or from a packet.
         ensures read { OnOk result
             (is_clean self.entry.reply self.entry.prepared.dictionary ≡ true
             → is_clean (proxy_states self.entry.request) self.entry.prepared.dictionary ≡ true

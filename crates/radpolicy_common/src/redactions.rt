@@ -64,7 +64,8 @@ impl<'a> Redaction<'a> {
         ensures dictionary { IfOk result (λ redaction. redaction.dictionary ≡ dictionary.now) }
         ensures secrets { IfOk result (λ redaction. redaction.secrets ≡ hiding.entry.secrets) }
         ensures ids { IfOk result (λ redaction.
-            AreSecret dictionary.now hiding.entry.given.now (statements_of policies.now) redaction.ids) }
+            AreSecret dictionary.now hiding.entry.given.now (statements_of policies.now)
+            redaction.ids) }
         ensures captured { IfOk result (λ redaction. redaction.captured
             ≡ captures_secret dictionary.now redaction.ids (statements_of policies.now)) }
     {

@@ -330,19 +330,22 @@ pub fn import_statements(
     // What is written is a policy.
     ensures policy { IfOk result (λ imported.
         SpellsPolicy dictionary.now imported.text.items imported.policy) }
-    // The statements that are kept, line by line, and those that are left out are as many as were read.
+    // The statements that are kept, line by line, and those that are left out are as many as were
+    // read.
     ensures read { IfOk result (λ imported. imported.read ≡ count_of statements.now) }
     ensures kept { IfOk result (λ imported. imported.kept ≡ kept_in imported.lines.items) }
     ensures all { IfOk result (λ imported.
         imported.kept + left_in imported.left_out.items ≡ imported.read) }
-    // Each line comes from a line of a file that was read, and so does each part that is left out, and each warning.
+    // Each line comes from a line of a file that was read, and so does each part that is left out,
+    // and each warning.
     ensures lines { AreOnLines configuration.now.files.items configuration.now.items.items
         → IfOk result (λ imported.
         AreLines configuration.now.files.items (line_origins imported.lines.items)) }
     // It is that of a statement, or of a pair of the initial lists.
     ensures places { IfOk result (λ imported. All (IsOfItem configuration.now.items.items
         settings.entry.initial statements.now) imported.lines.items) }
-    // The text's lines are these, in their order, and each ends in its own origin where the settings ask for it.
+    // The text's lines are these, in their order, and each ends in its own origin where the
+    // settings ask for it.
     ensures numbers { IfOk result (λ imported.
         line_feeds imported.text.items ≡ length imported.lines.items) }
     ensures ends { IfOk result (λ imported. EndAsTold settings.entry.line_ends configuration.now

@@ -591,7 +591,8 @@ impl Comparison<'_> {
         requires own { PacketFits printer.now.new.now own.now }
         ensures { IfOk result (λ lines. lines.items
             ≡ packets_lines (removed_line printer.now.old.now printer.now.redaction.now)
-            (added_line printer.now.new.now printer.now.redaction.now) self.now captured.now own.now) }
+            (added_line printer.now.new.now printer.now.redaction.now)
+            self.now captured.now own.now) }
     {
         let captured_pairs = self.compared_pairs(alloc, captured.list.as_slice())?;
         let own_pairs = self.compared_pairs(alloc, own.list.as_slice())?;
@@ -612,7 +613,8 @@ impl Comparison<'_> {
         requires own { PacketFits printer.now.new.now own.now }
         ensures { OnOk result (text.new.items ≡ text.old.items
             ++ packets_change (removed_line printer.now.old.now printer.now.redaction.now)
-            (added_line printer.now.new.now printer.now.redaction.now) self.now captured.now own.now) }
+            (added_line printer.now.new.now printer.now.redaction.now)
+            self.now captured.now own.now) }
     {
         let lines = self.packets_lines(*text.allocator(), printer, captured, own)?;
         push_named(text, b"reply", &lines)

@@ -87,7 +87,8 @@ impl Printer<'_> {
     fn push_all_removed(&self, text: &mut Vec<u8>, pairs: &[&Pair]) -> Result<(), AllocError>
         requires { AllFit self.now.old.now (pairs_of pairs.now) }
         ensures { OnOk result (text.new.items ≡ text.old.items
-            ++ flat_map (removed_line self.now.old.now self.now.redaction.now) (pairs_of pairs.now)) }
+            ++ flat_map (removed_line self.now.old.now self.now.redaction.now)
+            (pairs_of pairs.now)) }
     {
         let mut rest = pairs;
         while let [pair, later @ ..] = rest {
@@ -116,7 +117,8 @@ impl Printer<'_> {
         requires new { AllFit self.now.new.now (pairs_of new.now) }
         ensures { OnOk result (text.new.items ≡ text.old.items
             ++ pairs_change (removed_line self.now.old.now self.now.redaction.now)
-            (added_line self.now.new.now self.now.redaction.now) (pairs_of old.now) (pairs_of new.now)) }
+            (added_line self.now.new.now self.now.redaction.now)
+            (pairs_of old.now) (pairs_of new.now)) }
     {
         if same_pairs(old, new) {
             return Ok(());
@@ -138,8 +140,8 @@ impl Printer<'_> {
         requires new { AllFit self.now.new.now (pairs_of new.now) }
         ensures { OnOk result (text.new.items ≡ text.old.items
             ++ instances_change (removed_line self.now.old.now self.now.redaction.now)
-            (added_line self.now.new.now self.now.redaction.now) (pairs_of old.now) (pairs_of new.now)
-            id) }
+            (added_line self.now.new.now self.now.redaction.now)
+            (pairs_of old.now) (pairs_of new.now) id) }
     {
         let alloc = *text.allocator();
         let removed = instances(alloc, id, old)?;
@@ -158,8 +160,8 @@ impl Printer<'_> {
         requires new { AllFit self.now.new.now (pairs_of new.now) }
         ensures { OnOk result (text.new.items ≡ text.old.items
             ++ flat_map (instances_change (removed_line self.now.old.now self.now.redaction.now)
-            (added_line self.now.new.now self.now.redaction.now) (pairs_of old.now) (pairs_of new.now))
-            ids.now) }
+            (added_line self.now.new.now self.now.redaction.now)
+            (pairs_of old.now) (pairs_of new.now)) ids.now) }
     {
         let mut rest = ids;
         while let [id, later @ ..] = rest {

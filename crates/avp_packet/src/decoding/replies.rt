@@ -105,10 +105,12 @@ pub fn decode_reply(
     ensures fits { IfOk result (λ packet.
         All (λ pair. fits pair dictionary.now ≡ true) packet.list) }
 
-    // Each pair's own octets stand for its value, but for an attribute that holds others and is not looked into.
+    // Each pair's own octets stand for its value, but for an attribute that holds others and is
+    // not looked into.
     ensures own { IfOk result (λ packet. All (IsCanonicalOrContainer dictionary.now) packet.list) }
 
-    // The list is the one that the attributes mean; what was hidden was hidden by the request's authenticator.
+    // The list is the one that the attributes mean; what was hidden was hidden by the request's
+    // authenticator.
     ensures means { IfOk result (λ packet. OctetsMean dictionary.now secret.now
         packet.code request_authenticator.now octets.now packet.list) }
     ensures only { IfOk result (λ packet. (pairs : List Pair)

@@ -85,7 +85,8 @@ pub fn decode(
     ensures fits { IfOk result (λ packet.
         All (λ pair. fits pair dictionary.now ≡ true) packet.list) }
 
-    // Each pair's own octets stand for its value, but for an attribute that holds others and is not looked into.
+    // Each pair's own octets stand for its value, but for an attribute that holds others and is
+    // not looked into.
     ensures own { IfOk result (λ packet. All (IsCanonicalOrContainer dictionary.now) packet.list) }
 
     // The list is the one that the attributes mean.

@@ -164,7 +164,8 @@ fn compile_group(
 fn compile_conds(alloc: Global, conds: &[Cond], compiled: &mut Compiled) -> Result<(), CompileFault>
     ensures pass { OnOk result (IsTrue (list_all
         (cond_patterns_pass (is_among compiled.new)) conds.now)) }
-    ensures refused { IfErr result (λ _. list_all (cond_patterns_pass none_passes) conds.now ≡ false) }
+    ensures refused { IfErr result (λ _.
+        list_all (cond_patterns_pass none_passes) conds.now ≡ false) }
     ensures kept { AreKept compiled.old compiled.new }
 {
     for cond in conds {
@@ -256,7 +257,8 @@ fn compile_statement(
 ) -> Result<(), CompileFault>
     ensures pass { OnOk result (IsTrue (statement_patterns_pass (is_among compiled.new)
         statement.now)) }
-    ensures refused { IfErr result (λ _. statement_patterns_pass none_passes statement.now ≡ false) }
+    ensures refused { IfErr result (λ _.
+        statement_patterns_pass none_passes statement.now ≡ false) }
     ensures kept { AreKept compiled.old compiled.new }
 {
     match statement {

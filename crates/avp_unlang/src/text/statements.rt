@@ -247,8 +247,8 @@ fn branch<'a>(
     begin: Position,
     at: Cursor<'a>,
 ) -> Read<'a, Branch>
-    ensures read { Reads (BranchIs profile dictionary.now depth (Nested profile dictionary.now depth)
-        at.entry) result }
+    ensures read { Reads (BranchIs profile dictionary.now depth
+        (Nested profile dictionary.now depth) at.entry) result }
     ensures refused { IfErr result (Tells (BranchFails profile dictionary.now depth
         (Nested profile dictionary.now depth) (NestedFails profile dictionary.now depth)
         begin.left at.entry)) }

@@ -67,7 +67,8 @@ fn push_present<S: Store>(
 ) -> Result<(), AllocError>
     requires { AllFit dictionary.now (list_of list (present (S.history store.now))) }
     ensures { OnOk result (text.new.items ≡ text.old.items
-        ++ list_text profile dictionary.now name.now (list_of list (present (S.history store.now)))) }
+        ++ list_text profile dictionary.now name.now
+        (list_of list (present (S.history store.now)))) }
 {
     text.extend_from_slice(name.as_bytes())?;
     text.extend_from_slice(b"\n")?;
