@@ -36,52 +36,65 @@ pub(crate) const STATEMENT_WORDS: [&str; 10] = [
 
 const LISTS: [&str; 3] = ["request", "reply", "control"];
 
+// Words that begin no statement here, and what to do.
+const STATEMENT_HINTS: [(&[&str], &str); 7] = [
+    (
+        &["switch", "case"],
+        "switch is left out here: write if (&Name == value) { .. } elsif (..) { .. }, as \
+        radpolicy-import does",
+    ),
+    (
+        &["foreach", "break"],
+        "loops are left out here: of an attribute the first instance alone can be used, as &Name",
+    ),
+    (
+        &[
+            "authorize",
+            "authenticate",
+            "preacct",
+            "accounting",
+            "session",
+            "post-auth",
+            "pre-proxy",
+            "post-proxy",
+            "server",
+            "policy",
+            "Post-Auth-Type",
+            "Auth-Type",
+        ],
+        "a section's own line is left out here: write only what is between its { and }",
+    ),
+    (&["else", "elsif"], "else and elsif follow the } of an if"),
+    (
+        &["return"],
+        "return is left out here: put what comes after it into else { .. }, or take it out where \
+        nothing does",
+    ),
+    (
+        &["handled", "invalid", "userlock", "notfound", "disallow"],
+        "of the server's codes there are ok, noop, updated, fail and reject: ask for one of \
+        these, or take it out",
+    ),
+    (
+        &[
+            "group",
+            "redundant",
+            "load-balance",
+            "redundant-load-balance",
+            "parallel",
+            "limit",
+            "actions",
+        ],
+        "this block is left out here: write only what it would run",
+    ),
+];
+
 // What to do where a statement begins with a word of the server's language.
 fn statement_hint(word: &str) -> Option<&'static str> {
-    match word {
-        "switch" | "case" => {
-            Some(
-                "switch is left out here: write if (&Name == value) { .. } elsif (..) { .. }, as radpolicy-import does",
-            )
-        }
-        "foreach" | "break" => Some(
-            "loops are left out here: of an attribute the first instance alone can be used, as &Name",
-        ),
-        "authorize"
-        | "authenticate"
-        | "preacct"
-        | "accounting"
-        | "session"
-        | "post-auth"
-        | "pre-proxy"
-        | "post-proxy"
-        | "server"
-        | "policy"
-        | "Post-Auth-Type"
-        | "Auth-Type" => {
-            Some("a section's own line is left out here: write only what is between its { and }")
-        }
-        "else" | "elsif" => Some("else and elsif follow the } of an if"),
-        "return" => {
-            Some(
-                "return is left out here: put what comes after it into else { .. }, or take it out where nothing does",
-            )
-        }
-        "handled" | "invalid" | "userlock" | "notfound" | "disallow" => {
-            Some(
-                "of the server's codes there are ok, noop, updated, fail and reject: ask for one of \
-                these, or take it out",
-            )
-        }
-        "group"
-        | "redundant"
-        | "load-balance"
-        | "redundant-load-balance"
-        | "parallel"
-        | "limit"
-        | "actions" => Some("this block is left out here: write only what it would run"),
-        _ => None,
-    }
+    let (_, hint) = STATEMENT_HINTS
+        .iter()
+        .find(|(words, _)| words.contains(&word))?;
+    Some(hint)
 }
 
 fn begins_with_control(text: &str) -> bool {

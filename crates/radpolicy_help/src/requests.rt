@@ -91,6 +91,21 @@ fn push_sentences(
         LineKind::NotValue => {
             push_not_value(alloc, help, sources, sources.request_profile(), name, value)
         },
+        LineKind::Unreadable => push_all(
+            help,
+            &[
+                "a line is Name = value, with a comma between two pairs\n",
+                unreadable_hint(rest),
+                "\n",
+            ],
+        ),
+        _ => push_remedy(help, kind, name),
+    }
+}
+
+// The sentences for a fault that does not hang on what the pair's text is.
+fn push_remedy(help: &mut Vec<u8>, kind: LineKind, name: &str) -> Result<(), AllocError> {
+    match kind {
         LineKind::TooLong => push_all(
             help,
             &[
@@ -115,15 +130,7 @@ fn push_sentences(
             ],
         ),
         LineKind::TooMany => push_all(help, &["a request has at most 4096 attributes\n"]),
-        LineKind::Unreadable => push_all(
-            help,
-            &[
-                "a line is Name = value, with a comma between two pairs\n",
-                unreadable_hint(rest),
-                "\n",
-            ],
-        ),
-        LineKind::Memory => Ok(()),
+        LineKind::Unknown | LineKind::NotValue | LineKind::Unreadable | LineKind::Memory => Ok(()),
     }
 }
 

@@ -61,6 +61,32 @@ fn unknown_name<'a>(alloc: Global, sources: &Sources<'_>, found: &'a str) -> &'a
     name_in(found)
 }
 
+// What to do where an operand begins with no name of an attribute. Returns whether there is something to tell.
+fn push_operand_hint(alloc: Global, help: &mut Vec<u8>, name: &str) -> Result<bool, AllocError> {
+    if name.starts_with("/") {
+        push_all(
+            help,
+            &["a regular expression follows an attribute: write &Name =~ before it\n"],
+        )?;
+        return Ok(true);
+    }
+    if is_server_code(name) {
+        push_all(
+            help,
+            &["of the server's codes there are ok, noop, updated, fail and reject\n"],
+        )?;
+        return Ok(true);
+    }
+    let codes = nearest_of(alloc, name, &CODES)?;
+    let is_near = !codes.is_empty() && !is_code(name);
+    if is_near {
+        push_all(help, &["write "])?;
+        push_choices(help, &codes)?;
+        push_all(help, &["\n"])?;
+    }
+    Ok(is_near)
+}
+
 fn push_unknown_hint(
     alloc: Global,
     help: &mut Vec<u8>,
@@ -77,25 +103,8 @@ fn push_unknown_hint(
             &["of the server's lists there are request, reply and control\n"],
         );
     }
-    if context.expected == Expected::Operand {
-        if name.starts_with("/") {
-            return push_all(
-                help,
-                &["a regular expression follows an attribute: write &Name =~ before it\n"],
-            );
-        }
-        if is_server_code(name) {
-            return push_all(
-                help,
-                &["of the server's codes there are ok, noop, updated, fail and reject\n"],
-            );
-        }
-        let codes = nearest_of(alloc, name, &CODES)?;
-        if !codes.is_empty() && !is_code(name) {
-            push_all(help, &["write "])?;
-            push_choices(help, &codes)?;
-            return push_all(help, &["\n"]);
-        }
+    if context.expected == Expected::Operand && push_operand_hint(alloc, help, name)? {
+        return Ok(());
     }
     if let Some((_, tag)) = name.split_once(":") {
         if tag.len() <= 2 {
