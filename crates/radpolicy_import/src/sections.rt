@@ -72,7 +72,11 @@ fn lack(
     text.extend_from_slice(b"; ")?;
     text.extend_from_slice(behind.as_bytes())?;
     for (index, name) in names.iter().enumerate() {
-        text.extend_from_slice(if index > 0 { b", " } else { b" " })?;
+        text.extend_from_slice(if index > 0 {
+            b", ".as_slice()
+        } else {
+            b" ".as_slice()
+        })?;
         text.extend_from_slice(name)?;
     }
     if names.is_empty() {
@@ -90,7 +94,7 @@ fn lack_of_policy(
     let names = names_in(alloc, configuration, configuration.section(None, b"policy"))?;
     lack(
         alloc,
-        &[b"there is no policy ", name.as_bytes()],
+        &[b"there is no policy ".as_slice(), name.as_bytes()],
         "there are",
         &names,
     )
@@ -110,7 +114,7 @@ fn server_of<'a>(
     };
     match section_in(configuration.items.get(place)?, None) {
         Some((_, [name, ..])) => Some((place, name.octets.as_slice())),
-        _ => Some((place, b"")),
+        _ => Some((place, b"".as_slice())),
     }
 }
 
@@ -121,34 +125,20 @@ fn lack_in(
     server: Option<(usize, &[u8])>,
     wanted: Wanted<'_>,
 ) -> Result<Vec<u8>, AllocError> {
-    let (place, name) = match server {
-        Some((place, name)) => (Some(place), name),
-        None => (None, b"".as_slice()),
+    let (place, kind, name) = match server {
+        Some((place, name)) => (Some(place), b"the server ".as_slice(), name),
+        None => (None, b"the configuration".as_slice(), b"".as_slice()),
     };
     match (configuration.section(place, wanted.section), wanted.second) {
         (Some(section), Some(second)) => {
             let names = second_names_in(alloc, configuration, Some(section), b"-Type")?;
-            lack(
-                alloc,
-                &[wanted.section, b" has no section of the type ", second],
-                "it has",
-                &names,
-            )
+            let before = [wanted.section, b" has no section of the type ".as_slice(), second];
+            lack(alloc, &before, "it has", &names)
         }
         _ => {
             let names = names_in(alloc, configuration, place)?;
-            let before = [
-                b"the server ".as_slice(),
-                name,
-                b" has no section ",
-                wanted.section,
-            ];
-            let before = if place.is_some() {
-                before.as_slice()
-            } else {
-                &before[2..]
-            };
-            lack(alloc, before, "it has", &names)
+            let before = [kind, name, b" has no section ".as_slice(), wanted.section];
+            lack(alloc, &before, "it has", &names)
         }
     }
 }
@@ -161,7 +151,7 @@ fn lack_of_section(
     match (server_of(configuration, wanted), wanted.server) {
         (None, Some(name)) => {
             let names = second_names_in(alloc, configuration, None, b"server")?;
-            lack(alloc, &[b"there is no server ", name], "there are", &names)
+            lack(alloc, &[b"there is no server ".as_slice(), name], "there are", &names)
         }
         (server, _) => lack_in(alloc, configuration, server, wanted),
     }

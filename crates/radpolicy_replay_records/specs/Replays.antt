@@ -1,5 +1,5 @@
 -- What a replay writes of a text of records, and how many there were.
-use Rattle.std.specs.Prelude.{◌≡◌, ◌≤◌, ℕ, ◌+◌, ◌^◌, Bool, true, false, List, [], ◌++◌, codes, Option, None, Some, Result, Ok, Err, ⊤}
+use Rattle.std.specs.Prelude.{◌≡◌, ◌≤◌, ℕ, ◌+◌, ◌^◌, Bool, true, false, if◌then◌else◌, List, [], ◌++◌, codes, Option, None, Some, Result, Ok, Err, ⊤}
 use Rattle.std.specs.Io.KnownBytes.{Appends, Consumes}
 use Rattle.std.specs.List.{enumerate_from, flat_map, fold}
 use Rattle.std.specs.Option.{option_and_then}
@@ -137,7 +137,7 @@ text_in StrictTests replay number secret entry =
     test_of replay true number (heading replay.shown number secret entry) secret entry
 text_in Json replay number secret entry = entry_json replay number secret entry
 
--- what is written for a record with this number that says this and is taken, by the secret of its source if there is one
+-- what is written for a record with this number that says this and is taken, by the secret of its source, if it has one
 unfoldable pub taken_text : Replay → ℕ → RecordSecret → Entry → List ℕ
 taken_text replay number secret entry = text_in replay.layout replay number secret entry
 

@@ -17,16 +17,21 @@ use radpolicy_record_answers::{
 };
 use std::alloc::{AllocError, Global};
 
+fn same_against<'b>(against: &Against<'b>) -> Against<'b>
+    ensures { result ≡ against.now }
+{
+    match against {
+        Against::Policy(policy) => Against::Policy(*policy),
+        Against::Captured => Against::Captured,
+    }
+}
+
 // The same comparison, by which the reply that was captured is not shown.
 fn without_replies<'b>(comparison: &'b Comparison<'b>) -> Comparison<'b>
     ensures { result ≡ without_replies comparison.now }
 {
-    let against = match &comparison.against {
-        Against::Policy(policy) => Against::Policy(*policy),
-        Against::Captured => Against::Captured,
-    };
     Comparison {
-        against,
+        against: same_against(&comparison.against),
         order: comparison.order,
         ignored: comparison.ignored,
         told: comparison.told,
@@ -118,6 +123,30 @@ impl<'a> Replay<'a> {
     }
 
     // The difference of a record, where its answer is compared.
+    fn push_difference<'b>(
+        &'b self,
+        text: &mut Vec<u8>,
+        runners: &mut Runners<'a>,
+        comparison: &'b Comparison<'b>,
+        secret: &'b RecordSecret<'b>,
+        entry: &Entry,
+    ) -> Result<Verdict, AllocError>
+        requires runners { AreFor self.now (Some comparison.now) runners.old }
+        ensures text { OnOk result (text.new.items ≡ text.old.items
+            ++ difference_on self.now (Some comparison.now) secret.now entry.now) }
+        ensures kept { runners.new ≡ runners.old }
+    {
+        let plain = without_replies(comparison);
+        match &comparison.against {
+            Against::Policy(against) => {
+                self.push_beside_policy(text, runners, &plain, *against, b"", secret, entry)
+            }
+            Against::Captured => {
+                self.push_beside_captured(text, runners, &plain, b"", secret, entry)
+            }
+        }
+    }
+
     fn compared_difference<'b>(
         &'b self,
         alloc: Global,
@@ -131,16 +160,8 @@ impl<'a> Replay<'a> {
             ≡ difference_on self.now (Some comparison.now) secret.now entry.now) }
         ensures kept { runners.new ≡ runners.old }
     {
-        let plain = without_replies(comparison);
         let mut text = Vec::new(alloc);
-        let _verdict = match &comparison.against {
-            Against::Policy(against) => {
-                self.push_beside_policy(&mut text, runners, &plain, *against, b"", secret, entry)?
-            }
-            Against::Captured => {
-                self.push_beside_captured(&mut text, runners, &plain, b"", secret, entry)?
-            }
-        };
+        let _verdict = self.push_difference(&mut text, runners, comparison, secret, entry)?;
         Ok(text)
     }
 
