@@ -132,7 +132,11 @@ fn lack_in(
     match (configuration.section(place, wanted.section), wanted.second) {
         (Some(section), Some(second)) => {
             let names = second_names_in(alloc, configuration, Some(section), b"-Type")?;
-            let before = [wanted.section, b" has no section of the type ".as_slice(), second];
+            let before = [
+                wanted.section,
+                b" has no section of the type ".as_slice(),
+                second,
+            ];
             lack(alloc, &before, "it has", &names)
         }
         _ => {
@@ -151,7 +155,12 @@ fn lack_of_section(
     match (server_of(configuration, wanted), wanted.server) {
         (None, Some(name)) => {
             let names = second_names_in(alloc, configuration, None, b"server")?;
-            lack(alloc, &[b"there is no server ".as_slice(), name], "there are", &names)
+            lack(
+                alloc,
+                &[b"there is no server ".as_slice(), name],
+                "there are",
+                &names,
+            )
         }
         (server, _) => lack_in(alloc, configuration, server, wanted),
     }

@@ -1,10 +1,10 @@
 -- The counts of lines, with a record more: none is above that of the records.
-use Rattle.std.proofs.Common.{◌≡◌, ◌∙◌, ℕ, ◌+◌, ◌≤◌, ◌<◌, ◌^◌, Bool, true, false, if◌then◌else◌, List, [], ◌∷◌, ◌++◌, All, append-nil, bytes_eq, filter, map, length, nat_lt, refl, sym, ap, subst, arith}
+use Rattle.std.proofs.Common.{◌≡◌, ◌∙◌, ℕ, ◌+◌, ◌≤◌, ◌<◌, ◌^◌, Bool, true, false, if◌then◌else◌, List, [], ◌∷◌, ◌++◌, All, append-nil, filter, map, length, nat_lt, refl, sym, ap, subst, arith}
 use Rattle.std.specs.List.{list_any}
 use Rattle.std.proofs.lemmas.List.Elements.{All-append, All-cons, All-map, All-nil, All-weaker}
 use Rattle.radpolicy_changing_lines.specs.Differences.{same_line}
 use Rattle.radpolicy_changing_lines.specs.declared.differences.PolicyLine.{PolicyLine}
-use Rattle.radpolicy_replay_records.specs.DifferenceCounts.{counted_again, differences_with, has_difference, new_count, one_more, with_difference}
+use Rattle.radpolicy_replay_records.specs.DifferenceCounts.{counted_again, differences_with, first_record, has_difference, new_count, one_more}
 use Rattle.radpolicy_replay_records.specs.LineCounts.{counted_once, first_count, is_new, with_lines}
 use Rattle.radpolicy_replay_records.specs.Replays.{counted, counted_with}
 use Rattle.radpolicy_replay_records.specs.declared.difference_counts.DifferenceCount.{DifferenceCount}
@@ -84,7 +84,7 @@ again_within name difference n count h =
 
 new_within : (name difference : List ℕ) (n : ℕ) (room : Bool) → All (Within (n + 1)) (new_count room name difference)
 new_within name difference n true =
-    All-cons (Within (n + 1)) (record { difference = difference; records = 1; names = name ++ 10 ∷ [] }) [] (omega arith) (All-nil (Within (n + 1)))
+    All-cons (Within (n + 1)) (first_record name difference) [] (omega arith) (All-nil (Within (n + 1)))
 new_within name difference n false = All-nil (Within (n + 1))
 
 still_within : (n : ℕ) (counts : List DifferenceCount) → All (Within n) counts → All (Within (n + 1)) counts
