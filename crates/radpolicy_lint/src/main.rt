@@ -12,7 +12,10 @@ use crate::command_line::{Plan, help_text, read_words};
 use crate::linting::{Found, Linter, Reading};
 use avp_dict::{Dictionary, FileSet};
 use radpolicy::{Fault, status};
-use radpolicy_common::{Unread, named_attributes, read_dictionary_set, read_file, refuse_early};
+use radpolicy_common::{
+    Unread, dictionaries_meant, lent_paths, named_attributes, read_dictionary_set, read_file,
+    refuse_early,
+};
 use radpolicy_help::{refuse_name, refuse_unread_explained, refuse_words_of};
 use std::alloc::AllocError;
 use std::io;
@@ -115,6 +118,19 @@ fn lint_plan(rt: &HostRuntime, plan: &Plan<'_>) -> u8 {
     }
 }
 
+// What is found by a plan, by the dictionaries that it means.
+fn lint_by_meant(rt: &HostRuntime, plan: Plan<'_>) -> u8 {
+    let Ok(paths) = dictionaries_meant(rt, &plan.dictionaries, plan.folder) else {
+        return refuse_early(rt, &Fault::Memory);
+    };
+    let Ok(lent) = lent_paths(rt.alloc(), &paths) else {
+        return refuse_early(rt, &Fault::Memory);
+    };
+    let mut meant = plan;
+    meant.dictionaries = lent;
+    lint_plan(rt, &meant)
+}
+
 fn show_help(rt: &HostRuntime, words: &[String]) -> u8 {
     match help_text(rt.alloc(), words) {
         Ok(text) => match rt.print(text.as_str()) {
@@ -127,7 +143,7 @@ fn show_help(rt: &HostRuntime, words: &[String]) -> u8 {
 
 fn lint_words(rt: &HostRuntime, words: &[String]) -> u8 {
     match read_words(rt.alloc(), words) {
-        Ok(plan) => lint_plan(rt, &plan),
+        Ok(plan) => lint_by_meant(rt, plan),
         Err(Fault::Help) => show_help(rt, words),
         Err(fault) => refuse_words_of(rt, &fault, "radpolicy-lint", help_text(rt.alloc(), words)),
     }
