@@ -28,8 +28,8 @@ use avp_forms::Profile;
 use avp_unlang::Items;
 use radpolicy::{Fault, status};
 use radpolicy_common::{
-    Hiding, Redaction, SecretValues, named_attributes, read_dictionary_set, refuse, refuse_early,
-    refuse_outputs,
+    Hiding, Redaction, SecretValues, command_words, named_attributes, read_dictionary_set, refuse,
+    refuse_early, refuse_outputs, show_help,
 };
 use radpolicy_help::{
     Sources, refuse_explained, refuse_name, refuse_unread_explained, refuse_words_of,
@@ -43,7 +43,6 @@ use radpolicy_import_policies::{
 use radpolicy_import_texts::SecretNames;
 use server_configuration::{Configuration, ConfigurationFault, SystemFiles, read_configuration};
 use std::alloc::{AllocError, Global};
-use std::io;
 use std::process::ExitCode;
 
 /// What the program is called in its faults and in the files that it writes.
@@ -525,36 +524,18 @@ fn import_plan(rt: &HostRuntime, plan: &Plan<'_>) -> u8 {
     }
 }
 
-fn show_help(rt: &HostRuntime, words: &[String]) -> u8 {
-    match help_text(rt.alloc(), words) {
-        Ok(text) => match rt.print(text.as_str()) {
-            Ok(()) => status(&Fault::Help),
-            Err(_) => refuse_early(rt, &Fault::Write),
-        },
-        Err(_) => refuse_early(rt, &Fault::Memory),
-    }
-}
-
 fn import_words(rt: &HostRuntime, words: &[String]) -> u8 {
     match read_words(rt.alloc(), words) {
         Ok(plan) => import_plan(rt, &plan),
-        Err(Fault::Help) => show_help(rt, words),
+        Err(Fault::Help) => show_help(rt, help_text(rt.alloc(), words)),
         Err(fault) => refuse_words_of(rt, &fault, PROGRAM, help_text(rt.alloc(), words)),
     }
 }
 
-// The words of the command line. Words that are no UTF-8 are an error.
-fn words_of(rt: &HostRuntime) -> io::Result<Vec<String>> {
-    Ok(std::env::args(rt)?.collect(rt.alloc())?)
-}
-
 fn main(rt: HostRuntime) -> ExitCode {
-    let code = match words_of(&rt) {
+    let code = match command_words(&rt) {
         Ok(words) => import_words(&rt, words.as_slice()),
-        Err(error) if error.kind() == io::ErrorKind::OutOfMemory => {
-            refuse_early(&rt, &Fault::Memory)
-        }
-        Err(_) => refuse_early(&rt, &Fault::Usage),
+        Err(code) => code,
     };
     ExitCode::from(code)
 }

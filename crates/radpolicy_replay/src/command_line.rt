@@ -10,8 +10,7 @@ use crate::options::{
 use crate::traffic::Traffic;
 use avp_forms::offset_spelled;
 use clap::ArgMatches;
-use clap::error::ErrorKind;
-use radpolicy::Fault;
+use radpolicy::{Fault, word_fault};
 use radpolicy_common::SecretValues;
 use radpolicy_record_answers::{Order, Told};
 use radpolicy_replay_records::Layout;
@@ -112,17 +111,6 @@ impl<'a> Plan<'a> {
             AgainstPlan::File(path) => Some(path),
             AgainstPlan::Captured => None,
         }
-    }
-}
-
-// The fault of a parse that failed.
-fn fault_of(error: &clap::Error) -> Fault
-    ensures { IsWordFault result }
-{
-    match error.kind() {
-        ErrorKind::DisplayHelp => Fault::Help,
-        ErrorKind::OutOfMemory => Fault::Memory,
-        _ => Fault::Usage,
     }
 }
 
@@ -375,7 +363,7 @@ pub fn read_words<'a, S: AsStr>(alloc: Global, words: &'a [S]) -> Result<Asked<'
 {
     let matches = program(alloc)?
         .try_get_matches_from(words)
-        .map_err(|error| fault_of(&error))?;
+        .map_err(|error| word_fault(&error))?;
     asked_of(alloc, &matches)
 }
 

@@ -37,15 +37,14 @@ use avp_dict::{Dictionary, FileSet};
 use avp_lists::{AttrId, Octets};
 use radpolicy::{Fault, PreparedPolicy, status};
 use radpolicy_common::{
-    Hiding, Redaction, Unread, dictionaries_meant, lent_paths, named_attributes,
-    read_dictionary_set, read_file, refuse_early,
+    Hiding, Redaction, Unread, command_words, dictionaries_meant, lent_paths, named_attributes,
+    read_dictionary_set, read_file, refuse_early, show_help,
 };
 use radpolicy_help::{Source, Sources, refuse_name, refuse_words_of};
 use radpolicy_record_answers::{Against, Comparison, Shown};
 use radpolicy_replay_records::{Layout, RecordReader, Records, Replay, ReplayFault, Summary};
 use std::alloc::{AllocError, Global};
 use std::fs::File;
-use std::io;
 use std::io::{BufReader, BufWriter, Read, Write};
 use std::process::ExitCode;
 use text_comparison::Watched;
@@ -506,37 +505,19 @@ fn replay_by_meant(rt: &HostRuntime, plan: Plan<'_>) -> u8 {
     replay_plan(rt, &meant)
 }
 
-fn show_help(rt: &HostRuntime, words: &[String]) -> u8 {
-    match help_text(rt.alloc(), words) {
-        Ok(text) => match rt.print(text.as_str()) {
-            Ok(()) => status(&Fault::Help),
-            Err(_) => refuse_early(rt, &Fault::Write),
-        },
-        Err(_) => refuse_early(rt, &Fault::Memory),
-    }
-}
-
 fn replay_words(rt: &HostRuntime, words: &[String]) -> u8 {
     match read_words(rt.alloc(), words) {
         Ok(Asked::Replay(plan)) => replay_by_meant(rt, plan),
         Ok(Asked::Packets(plan)) => write_packets(rt, plan),
-        Err(Fault::Help) => show_help(rt, words),
+        Err(Fault::Help) => show_help(rt, help_text(rt.alloc(), words)),
         Err(fault) => refuse_words_of(rt, &fault, "radpolicy-replay", help_text(rt.alloc(), words)),
     }
 }
 
-// The words of the command line. Words that are no UTF-8 are an error.
-fn words_of(rt: &HostRuntime) -> io::Result<Vec<String>> {
-    Ok(std::env::args(rt)?.collect(rt.alloc())?)
-}
-
 fn main(rt: HostRuntime) -> ExitCode {
-    let code = match words_of(&rt) {
+    let code = match command_words(&rt) {
         Ok(words) => replay_words(&rt, words.as_slice()),
-        Err(error) if error.kind() == io::ErrorKind::OutOfMemory => {
-            refuse_early(&rt, &Fault::Memory)
-        }
-        Err(_) => refuse_early(&rt, &Fault::Usage),
+        Err(code) => code,
     };
     ExitCode::from(code)
 }

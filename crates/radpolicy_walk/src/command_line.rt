@@ -4,9 +4,8 @@ ghost use Rattle.std.specs.Prelude.{IfErr};
 ghost use Rattle.radpolicy.specs.Faults.{IsWordFault};
 
 use avp_forms::offset_spelled;
-use clap::error::ErrorKind;
 use clap::{Arg, ArgAction, ArgMatches};
-use radpolicy::{Fault, Form};
+use radpolicy::{Fault, Form, word_fault};
 use radpolicy_common::SecretValues;
 use std::alloc::{AllocError, Global};
 use std::convert::AsStr;
@@ -171,17 +170,6 @@ fn program<'a>(alloc: Global) -> Result<clap::Command<'a>, AllocError> {
         .arg(dictionary_files(alloc))
 }
 
-// The fault of a parse that failed.
-fn fault_of(error: &clap::Error) -> Fault
-    ensures { IsWordFault result }
-{
-    match error.kind() {
-        ErrorKind::DisplayHelp => Fault::Help,
-        ErrorKind::OutOfMemory => Fault::Memory,
-        _ => Fault::Usage,
-    }
-}
-
 // How the request is given. A packet needs a secret, and lines take none.
 fn form_of(found: &ArgMatches<'_>) -> Result<Form, Fault>
     ensures { IfErr result IsWordFault }
@@ -285,7 +273,7 @@ pub fn read_words<'a, S: AsStr>(alloc: Global, words: &'a [S]) -> Result<Plan<'a
 {
     let matches = program(alloc)?
         .try_get_matches_from(words)
-        .map_err(|error| fault_of(&error))?;
+        .map_err(|error| word_fault(&error))?;
     plan_of(alloc, &matches)
 }
 

@@ -18,9 +18,9 @@ use avp_lists::{AttrId, Octets};
 use hex::FromHexError;
 use radpolicy::{Fault, Form, PreparedPolicy, RequestHead, RequestKind, Secret, Start, status};
 use radpolicy_common::{
-    Hiding, LineBreaks, Unread, dictionaries_meant, file_kind, lent_paths, named_attributes,
-    policy_shown, read_dictionary_set, read_file, read_optional, read_standard_input, refuse,
-    refuse_early, refuse_kind, refuse_unread, visible_text,
+    Hiding, LineBreaks, Unread, command_words, dictionaries_meant, file_kind, lent_paths,
+    named_attributes, policy_shown, read_dictionary_set, read_file, read_optional,
+    read_standard_input, refuse, refuse_early, refuse_kind, refuse_unread, show_help, visible_text,
 };
 use radpolicy_help::{
     STANDARD_INPUT, Source, Sources, refuse_explained, refuse_name, refuse_unread_explained,
@@ -28,7 +28,6 @@ use radpolicy_help::{
 };
 use radpolicy_walk_commands::Session;
 use std::alloc::{AllocError, Global};
-use std::io;
 use std::io::Write;
 use std::process::ExitCode;
 
@@ -405,36 +404,18 @@ fn walk_by_meant(rt: &HostRuntime, plan: Plan<'_>) -> u8 {
     walk_plan(rt, &meant)
 }
 
-fn show_help(rt: &HostRuntime, words: &[String]) -> u8 {
-    match help_text(rt.alloc(), words) {
-        Ok(text) => match rt.print(text.as_str()) {
-            Ok(()) => status(&Fault::Help),
-            Err(_) => refuse_early(rt, &Fault::Write),
-        },
-        Err(_) => refuse_early(rt, &Fault::Memory),
-    }
-}
-
 fn walk_words(rt: &HostRuntime, words: &[String]) -> u8 {
     match read_words(rt.alloc(), words) {
         Ok(plan) => walk_by_meant(rt, plan),
-        Err(Fault::Help) => show_help(rt, words),
+        Err(Fault::Help) => show_help(rt, help_text(rt.alloc(), words)),
         Err(fault) => refuse_words_of(rt, &fault, "radpolicy-walk", help_text(rt.alloc(), words)),
     }
 }
 
-// The words of the command line. Words that are no UTF-8 are an error.
-fn words_of(rt: &HostRuntime) -> io::Result<Vec<String>> {
-    Ok(std::env::args(rt)?.collect(rt.alloc())?)
-}
-
 fn main(rt: HostRuntime) -> ExitCode {
-    let code = match words_of(&rt) {
+    let code = match command_words(&rt) {
         Ok(words) => walk_words(&rt, words.as_slice()),
-        Err(error) if error.kind() == io::ErrorKind::OutOfMemory => {
-            refuse_early(&rt, &Fault::Memory)
-        }
-        Err(_) => refuse_early(&rt, &Fault::Usage),
+        Err(code) => code,
     };
     ExitCode::from(code)
 }
