@@ -241,6 +241,7 @@ pub(crate) fn program<'a>(alloc: Global) -> Result<clap::Command<'a>, AllocError
 /// memory, else E01.
 pub fn word_fault(error: &clap::Error) -> Fault
     ensures help { result ≡ Help → kind_of error.now ≡ ErrorKind.DisplayHelp }
+    ensures memory { result ≡ Memory → kind_of error.now ≡ ErrorKind.OutOfMemory }
     ensures usage { result ≡ Usage → kind_of error.now ≢ ErrorKind.OutOfMemory }
     ensures no_help { result ≡ Usage → kind_of error.now ≢ ErrorKind.DisplayHelp }
     ensures value { result ≢ OptionValue }
