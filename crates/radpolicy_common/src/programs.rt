@@ -1,4 +1,4 @@
-//! The words of a command line, and the help that they ask for.
+//! What each program does first: it takes the words of its command line, and prints the help that they ask for.
 
 use crate::refusals::refuse_early;
 use radpolicy::{Fault, status};
