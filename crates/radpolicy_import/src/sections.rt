@@ -119,11 +119,11 @@ fn server_of<'a>(
 }
 
 // What is lacking in a server, or at the top: the section, or the part of one.
-fn lack_in(
+fn lack_in<'a>(
     alloc: Global,
-    configuration: &Configuration,
-    server: Option<(usize, &[u8])>,
-    wanted: Wanted<'_>,
+    configuration: &'a Configuration,
+    server: Option<(usize, &'a [u8])>,
+    wanted: Wanted<'a>,
 ) -> Result<Vec<u8>, AllocError> {
     let (place, kind, name) = match server {
         Some((place, name)) => (Some(place), b"the server ".as_slice(), name),
@@ -147,10 +147,10 @@ fn lack_in(
     }
 }
 
-fn lack_of_section(
+fn lack_of_section<'a>(
     alloc: Global,
-    configuration: &Configuration,
-    wanted: Wanted<'_>,
+    configuration: &'a Configuration,
+    wanted: Wanted<'a>,
 ) -> Result<Vec<u8>, AllocError> {
     match (server_of(configuration, wanted), wanted.server) {
         (None, Some(name)) => {
