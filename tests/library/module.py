@@ -13,7 +13,7 @@ from common.program import run
 from common.report import Report
 from common.subject import Subject, new_folder
 
-SET = b'# profile: wider\nupdate reply { Tunnel-Private-Group-Id:1 := "99", Class += 0x0102 }\n'
+SET = b'# profile: wider\nupdate reply {\n\tTunnel-Private-Group-Id:1 := "99"\n\tClass += 0x0102\n}\n'
 LINES = b"User-Name = bob\n"
 THREADS = 4
 NOT_THERE = "LookupError: radpolicy: what is asked for is not there"
@@ -87,7 +87,7 @@ def faults_of_runs(radpolicy: ModuleType, folder: Path) -> List[str]:
         said = [refusal(radpolicy, lambda: dictionary.policy(b"update reply {\n  Class = }"))]
         policy = dictionary.policy(SET)
     with policy:
-        said += [refusal(radpolicy, lambda: policy.run(radpolicy.Request(b"User-Name = bob, Class = x\n"))),
+        said += [refusal(radpolicy, lambda: policy.run(radpolicy.Request(b"User-Name = bob, NAS-Port = x\n"))),
                  refusal(radpolicy, lambda: policy.run(radpolicy.Request(LINES, authenticator=b"short")))]
         request = radpolicy.Request(LINES, secret=b"xyzzy", authenticator=bytes(16))
         wanted = policy.reply(request).packet
