@@ -8,10 +8,12 @@
 //!   unless files are given and there is no text. Later questions are asked of the last one that was read.
 //! - `profile plain|wider` and `zone OFFSET` say how names and texts are read from there on.
 //! - `pattern FLAGS TEXT`, with `-` for no flags, reads a pattern, and `match TEXT` asks the last one that was read.
-//! - `entries`, `values` and `forms` have the other questions.
+//! - `secret TEXT` and `authenticator DIGITS` say what packets are made and read by from there on.
+//! - `entries`, `values`, `forms` and `packets` have the other questions.
 
 mod entries;
 mod forms;
+mod packets;
 mod patterns;
 mod setting;
 mod values;
@@ -117,6 +119,8 @@ impl Rows {
             }
             b"profile" => self.set_profile(text)?,
             b"zone" => self.setting.zone = offset_spelled(text),
+            b"secret" => self.setting.secret = Vec::from_slice(self.setting.alloc, text)?,
+            b"authenticator" => self.setting.set_authenticator(text)?,
             b"pattern" => self.pattern = patterns::read(out, self.setting.alloc, text)?,
             b"match" => match &self.pattern {
                 Some(pattern) => patterns::write_match(out, self.setting.alloc, pattern, text)?,
@@ -157,6 +161,29 @@ fn write_answer<W: Write>(
         b"compare" => forms::write_order(out, setting, text),
         b"put" => forms::write_texts_put(out, setting, text),
         b"expansion" => forms::write_expansion(out, setting, text),
+        _ => write_packet_answer(out, setting, word, text),
+    }
+}
+
+// The same of a question about packets.
+fn write_packet_answer<W: Write>(
+    out: &mut W,
+    setting: &Setting,
+    word: &[u8],
+    text: &[u8],
+) -> io::Result<()> {
+    match word {
+        b"decode" => packets::write_request(out, setting, text),
+        b"decode-reply" => packets::write_reply(out, setting, text),
+        b"decode-unchecked" => packets::write_unchecked(out, setting, text),
+        b"decode-reply-unchecked" => packets::write_reply_unchecked(out, setting, text),
+        b"encode" => packets::write_encoded(out, setting, text),
+        b"accept" => packets::write_accept(out, setting, text),
+        b"accept-signed" => packets::write_signed(out, setting, text),
+        b"check" => packets::write_check(out, setting, text),
+        b"hide" => packets::write_hidden(out, setting, text),
+        b"unhide" => packets::write_shown(out, setting, text),
+        b"attributes" => packets::write_walk(out, setting, text),
         _ => bad(),
     }
 }

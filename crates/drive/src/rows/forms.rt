@@ -80,8 +80,8 @@ fn form_value(
     let Setting {
         alloc,
         dictionary,
-        profile: _,
         zone,
+        ..
     } = setting;
     Ok(FormValue::of_text(*alloc, dictionary, target.named.id, tag, *zone, text))
 }

@@ -8,13 +8,15 @@ use std::alloc::Global;
 use std::io;
 use std::io::Write;
 
-/// The dictionary, and how names and texts are read.
+/// The dictionary, how names and texts are read, and what packets are made and read by.
 #[derive(Drop)]
 pub struct Setting {
     pub alloc: Global,
     pub dictionary: Dictionary,
     pub profile: Profile,
     pub zone: Option<i16>,
+    pub secret: Vec<u8>,
+    pub authenticator: [u8; 16],
 }
 
 // How many names a dictionary has, and the places of its notes: file and line.
@@ -32,13 +34,15 @@ fn write_counts<W: Write>(out: &mut W, dictionary: &Dictionary) -> io::Result<()
 }
 
 impl Setting {
-    /// The plain profile, and a dictionary without a line.
+    /// The plain profile, a dictionary without a line, the secret `s`, and an authenticator of zeros.
     pub fn new(alloc: Global) -> io::Result<Setting> {
         Ok(Setting {
             alloc,
             dictionary: dictionaries::of_text(alloc, b"")?,
             profile: Profile::Plain,
             zone: None,
+            secret: Vec::from_slice(alloc, b"s")?,
+            authenticator: [0; 16],
         })
     }
 
@@ -63,6 +67,18 @@ impl Setting {
                 "{}:{}:{} {:?}: {fault}",
                 fault.file, fault.line, fault.offset, fault.kind
             ),
+        }
+    }
+
+    /// The authenticator of these digits.
+    pub fn set_authenticator(&mut self, digits: &[u8]) -> io::Result<()> {
+        let mut authenticator = [0; 16];
+        match hex::decode_to_slice(digits, &mut authenticator) {
+            Ok(()) => {
+                self.authenticator = authenticator;
+                Ok(())
+            }
+            Err(_) => bad(),
         }
     }
 }

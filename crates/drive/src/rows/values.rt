@@ -57,6 +57,7 @@ fn write_written<W: Write>(
         dictionary,
         profile,
         zone,
+        ..
     } = setting;
     match value_written(*alloc, dictionary, *profile, target, *zone, text) {
         Ok(value) => {
@@ -121,6 +122,7 @@ fn pairs_of(setting: &Setting, text: &[u8]) -> Result<Vec<Pair>, LineFault> {
         dictionary,
         profile,
         zone,
+        ..
     } = setting;
     read_request(*alloc, dictionary, *profile, *zone, text)
 }
@@ -133,18 +135,22 @@ fn write_fault<W: Write>(out: &mut W, fault: &LineFault) -> io::Result<()> {
     )
 }
 
-/// The pairs of a request.
-pub fn write_request<W: Write>(out: &mut W, setting: &Setting, text: &[u8]) -> io::Result<()> {
-    let pairs = match pairs_of(setting, text) {
-        Ok(pairs) => pairs,
-        Err(fault) => return write_fault(out, &fault),
-    };
+/// How many pairs there are, and each.
+pub fn write_pairs<W: Write>(out: &mut W, setting: &Setting, pairs: &[Pair]) -> io::Result<()> {
     write!(out, "{} pairs", pairs.len())?;
-    for pair in &pairs {
+    for pair in pairs {
         out.write_all(b"; ")?;
         write_pair(out, setting, pair)?;
     }
     Ok(())
+}
+
+/// The pairs of a request.
+pub fn write_request<W: Write>(out: &mut W, setting: &Setting, text: &[u8]) -> io::Result<()> {
+    match pairs_of(setting, text) {
+        Ok(pairs) => write_pairs(out, setting, &pairs),
+        Err(fault) => write_fault(out, &fault),
+    }
 }
 
 /// How many pairs a request has.
