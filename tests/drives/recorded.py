@@ -1,5 +1,6 @@
 """What each program of `drive` prints of one run, to the octet, but for `lookups`, whose run the gate makes, and `rows`,
-whose questions are those of tests/rows; and words that name none. As the gate runs a program, so is this one run as both compilers make it."""
+whose questions are those of tests/rows; and words that name none. As the gate runs a program, so is this one run as both
+compilers make it."""
 from pathlib import Path
 from typing import List
 

@@ -1,5 +1,5 @@
 """What `drive rows` answers to the questions of each folder, line by line: to a line of `questions` the line of `wanted`
-with the same number. The head of crates/drive/src/rows.rt says what the questions are."""
+with its number. The head of crates/drive/src/rows.rt says what the questions are."""
 from itertools import zip_longest
 from pathlib import Path
 from typing import List
