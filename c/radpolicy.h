@@ -16,6 +16,11 @@
  *     status = radpolicy_policy_open(&policy, &dictionary, text, text_length, room, room_length, &line_length);
  *     radpolicy_dictionary_close(&dictionary);
  *
+ * It tells the numbers of an attribute by its name, and the name by the numbers:
+ *
+ *     status = radpolicy_attribute_named(&dictionary, name, name_length, &attribute);
+ *     status = radpolicy_attribute_name(&dictionary, &attribute, room, room_length, &name_length);
+ *
  * A server's own lists are kept in a store, edited there by the operators of policies, and come back whole; no memory is
  * wanted for that:
  *
@@ -50,6 +55,9 @@
 #include <stdbool.h>
 #include <stddef.h>
 #include <stdint.h>
+
+/* The version of this header, and of the library with which it is installed. */
+#define RADPOLICY_VERSION "0.1.0"
 
 #ifdef __cplusplus
 extern "C" {
@@ -226,6 +234,28 @@ enum radpolicy_kind {
     RADPOLICY_VENDOR = 1,   /* a vendor's (RFC 2865, section 5.26) */
     RADPOLICY_EXTENDED = 2, /* an extended one (RFC 6929, section 2) */
 };
+
+/* An attribute by its numbers. */
+struct radpolicy_attribute {
+    uint32_t within; /* the vendor's number, or the type of an extended attribute (241 to 246); of a plain one 0 */
+    uint32_t number; /* the attribute's number; of an extended one its Extended-Type */
+    uint8_t kind;    /* enum radpolicy_kind */
+};
+
+/* Tells the attribute for which a name stands in a dictionary, whatever the case of its letters: as "Framed-Pool", or by
+ * number as "Attr-26.9.1". A tag is no part of a name.
+ *
+ * RADPOLICY_DONE, RADPOLICY_IS_CLOSED, RADPOLICY_NOT_THERE (no attribute has the name); of the last two each number of
+ * *attribute becomes 0. */
+uint8_t radpolicy_attribute_named(struct radpolicy_dictionary *dictionary, const uint8_t *name, size_t name_length,
+                                  struct radpolicy_attribute *attribute);
+
+/* Puts the name that a dictionary has for an attribute at the front of the room, and its length into *name_length.
+ *
+ * RADPOLICY_DONE, RADPOLICY_TOO_SHORT (the length is told, and the room is as it was), RADPOLICY_IS_CLOSED,
+ * RADPOLICY_NOT_THERE (the dictionary has no attribute of these numbers); of the last two *name_length becomes 0. */
+uint8_t radpolicy_attribute_name(struct radpolicy_dictionary *dictionary, const struct radpolicy_attribute *attribute,
+                                 uint8_t *room, size_t room_length, size_t *name_length);
 
 /* A pair of a list, and where its octets are in the room for octets: those of its value, and its line as the report has
  * it, without the blanks before it and the newline after it, as "Class = 0x01". */

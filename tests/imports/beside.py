@@ -1,11 +1,13 @@
 """Sections of a FreeRADIUS server, each in a virtual server of its own on loopback, beside what `radpolicy-import`
 makes of them: the kind of the packet and the lists at the end, which the server shows where it makes the reply."""
+import ipaddress
 import os
 import re
 import shutil
 import subprocess
+from datetime import datetime, timezone
 from pathlib import Path
-from typing import Dict, List, NamedTuple, Optional
+from typing import Dict, List, NamedTuple, Optional, Set
 
 from common.program import run
 from common.subject import Subject, new_folder, on_all
@@ -76,12 +78,21 @@ ATTRIBUTE = re.compile(r"^ATTRIBUTE\s+(\S+)", re.M)
 OF_SERVER = ("Message-Authenticator", "Post-Auth-Type")
 # What a server adds to a request for which a condition compares what is absent.
 FAILED = "Module-Failure-Message = Failed retrieving values required to evaluate condition"
-ESCAPED = re.compile(r"\\(n|r|t|[0-7]{3}|.)", re.S)
-SIGNS = {"n": "\n", "r": "\r", "t": "\t"}
+ESCAPED = re.compile(rb"\\(n|r|t|[0-7]{3}|.)", re.S)
+SIGNS = {b"n": b"\n", b"r": b"\r", b"t": b"\t"}
+# What a server shows as a blank, and what it shows as a question mark: octets that are no UTF-8 come to the latter too.
+BLANKS = re.compile(r"[\n\r]")
+UNSHOWN = re.compile(r"[\x01-\x08\x0b-\x1f\x7f\udc80-\udcff]")
+# A date, which only a policy of the wider profile shows so.
+DATE = "%b %d %Y %H:%M:%S UTC"
 # What a server shows of an attribute with tags that was given none.
 NO_TAG = ":-128"
 # The lines of a report that are about a section's own text.
 TELLS = re.compile(r"^(?:\S*/)?parts/|: set by no line of the policy: |^[1-9]\d* of the kept have a value that is")
+# An attribute that the report tells to give a value, one that a line of a policy has, and where that line comes from.
+GIVEN = re.compile(r": set by no line of the policy: &control:(\S+) ")
+CONTROL = re.compile(r"control:([A-Za-z0-9-]+)")
+ORIGIN = re.compile(r"  # .*?parts/[^:]+:(\d+)")
 
 
 class Part(NamedTuple):
@@ -107,6 +118,8 @@ class Answers(NamedTuple):
     ours: List[Answer]
     told: List[str]
     report: str
+    # The lines of the section of which the policy asks for a value that the report tells to give.
+    asking: Set[int]
 
 
 def raddb() -> Path:
@@ -154,12 +167,29 @@ def ask(parts: Dict[str, Part], ports: Dict[str, int], at: int) -> None:
                    env={"PATH": "/usr/bin:/bin", "TZ": "UTC"})
 
 
+def signed(one: "re.Match[bytes]") -> bytes:
+    """What an escape stands for."""
+    return SIGNS.get(one[1], bytes([int(one[1], 8)]) if one[1].isdigit() else one[1])
+
+
+def in_one_form(value: str) -> str:
+    """An address of IPv6, a prefix or a date, in one form; any other value as it is."""
+    try:
+        return str(ipaddress.ip_interface(value)) if ":" in value else value
+    except ValueError:
+        pass
+    try:
+        return str(int(datetime.strptime(value, DATE).replace(tzinfo=timezone.utc).timestamp()))
+    except ValueError:
+        return value
+
+
 def as_shown(name: str, value: str) -> str:
-    """A pair as a server shows it: with signs in place of escapes, and a blank in place of a line feed."""
+    """A pair as a server shows it: without escapes, up to an octet NUL, with signs in place of what is not shown."""
     found = value[1:-1] if value.startswith('"') else value
-    plain = ESCAPED.sub(lambda one: SIGNS.get(one[1], chr(int(one[1], 8)) if one[1].isdigit() else one[1]), found)
-    shown = plain.replace("\n", " ")
-    return f"{name.replace(NO_TAG, ':0')} = {shown}"
+    plain = ESCAPED.sub(signed, found.encode()).partition(b"\0")[0].decode(errors="surrogateescape")
+    shown = UNSHOWN.sub("?", BLANKS.sub(" ", plain))
+    return f"{name.replace(NO_TAG, ':0')} = {in_one_form(shown)}"
 
 
 def without(lists: Dict[str, List[str]], names: List[str]) -> Dict[str, List[str]]:
@@ -183,6 +213,8 @@ def answer_of(lines: List[str]) -> Answer:
         else:
             shown = ""
         kind = sent[1] if sent else kind
+    # The request's, which a server puts into the list and we into the packet.
+    lists["reply"] = [pair for pair in lists["reply"] if not pair.startswith("Proxy-State = ")]
     return Answer(kind, without(lists, [*OF_SERVER]))
 
 
@@ -224,6 +256,13 @@ def imported(subject: Subject, folder: Path, dictionaries: List[str], name: str,
     return run([subject.driver("radpolicy_import"), *words, *dictionaries, folder], folder).errors.decode()
 
 
+def asking_lines(policy: str, told: List[str]) -> Set[int]:
+    """The lines of a section from which those lines of a policy come that have an attribute that one gives a value."""
+    given = {found[1] for line in told for found in [GIVEN.search(line)] if found}
+    lines = [(origin, set(CONTROL.findall(line))) for line in policy.splitlines() for origin in [ORIGIN.search(line)]]
+    return {int(origin[1]) for origin, asked in lines if origin and given & asked}
+
+
 def answers(subject: Subject, folder: Path, parts: Dict[str, Part], ports: Dict[str, int]) -> Dict[str, Answers]:
     """The answers to the requests of each part; none where a server does not start."""
     with server(folder, "UTC") as is_ready:
@@ -238,9 +277,11 @@ def answers(subject: Subject, folder: Path, parts: Dict[str, Part], ports: Dict[
     def answered(name: str) -> Answers:
         part = parts[name]
         said = imported(subject, folder, words, name, part.section)
-        if not (folder / f"{name}.policy").exists():
-            return Answers(theirs[name], [Answer(said, {}) for _ in part.requests], [], said)
+        policy = folder / f"{name}.policy"
+        if not policy.exists():
+            return Answers(theirs[name], [Answer(said, {}) for _ in part.requests], [], said, set())
         ours = [of_policy(subject, folder, name, dictionaries, request) for request in part.requests]
-        return Answers(theirs[name], ours, [line for line in said.splitlines() if TELLS.search(line)], said)
+        told = [line for line in said.splitlines() if TELLS.search(line)]
+        return Answers(theirs[name], ours, told, said, asking_lines(policy.read_text(), told))
 
     return dict(zip(parts, on_all(answered, parts)))

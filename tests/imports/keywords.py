@@ -21,6 +21,9 @@ PAIR = re.compile(r"^([A-Za-z0-9-]+) *(?::=|\+=|=)(?!=) *(.*)$", re.M)
 OF_USERS = "[obeyed-control]"
 # A line of a report, with the line of the test.
 TOLD = re.compile(r"^(?:\S*/)?parts/[^:]+:(\d+): ")
+# It tells that what follows is run, where a server may leave the section.
+LEAVES = ": what is done after a module's code: "
+COMMENT = re.compile(r"(?:^|\s)#[^\"']*$")
 OTHERWISE = re.compile(r"\}?\s*(?:else|elsif)\b")
 
 
@@ -55,8 +58,8 @@ def cuts_of(text: str) -> List[Cut]:
     found = [Cut(0, "", set())]
     lines, open_blocks, closed = text.splitlines(), [], set()
     for number, line in enumerate(lines, 1):
-        said = line.strip()
-        if not said or said.startswith("#") or said.endswith("\\"):
+        said = COMMENT.sub("", line).strip()
+        if not said or said.endswith("\\"):
             continue
         if said.startswith("}") and open_blocks:
             closed = open_blocks.pop()
@@ -97,10 +100,19 @@ def faults_of(found: Answers) -> List[str]:
     return [] if found.theirs == found.ours else [f"{found.ours}, by a server {found.theirs}"]
 
 
+def told_lines(found: Answers) -> Set[int]:
+    """The lines of a test of which the report tells something that is not told of nearly all tests."""
+    return {int(said[1]) for line in found.told if OF_USERS not in line for said in [TOLD.match(line)] if said}
+
+
+def leaving_lines(found: Answers) -> Set[int]:
+    return {int(said[1]) for line in found.told if LEAVES in line for said in [TOLD.match(line)] if said}
+
+
 def faults_of_told(found: Answers, before: Cut, parting: Cut) -> List[str]:
     """What is wrong with a test that ends otherwise, by where it parts."""
-    told = {int(said[1]) for line in found.told if OF_USERS not in line for said in [TOLD.match(line)] if said}
-    if told & (set(range(before.line + 1, parting.line + 1)) | parting.heads):
+    places = set(range(before.line + 1, parting.line + 1)) | parting.heads
+    if (told_lines(found) | found.asking) & places or min(leaving_lines(found), default=parting.line) < parting.line:
         return []
     return [f"nothing is told of line {parting.line}: {found.ours}, by a server {found.theirs}, {found.report}"]
 

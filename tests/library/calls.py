@@ -1,53 +1,34 @@
 """The library for C, as C and Python programs call it: what the program prints of each case, replies that FreeRADIUS's
 client accepts, and memory that is used rightly."""
 import ctypes
-import importlib.util
 import re
 import shutil
 import socket
 import subprocess
 import sys
 from pathlib import Path
-from types import ModuleType
 from typing import List, Optional, Tuple
 
 from common.cases import Case, cases_below
 from common.program import run
 from common.report import Report
 from common.subject import Subject, new_folder
-from library import jobs, watched
+from library import jobs, module, watched
 from library.building import missing, program, shared_library
+from library.structures import File, Lists, Outcome, Pair, Policy, Request, load, slice_of
 
-EXPORTED = ["radpolicy_answer", "radpolicy_close", "radpolicy_dictionary_close", "radpolicy_dictionary_open",
-            "radpolicy_dictionary_share", "radpolicy_open", "radpolicy_policy_open", "radpolicy_reply",
-            "radpolicy_run", "radpolicy_run_pairs", "radpolicy_share", "radpolicy_store_close", "radpolicy_store_count",
-            "radpolicy_store_edit", "radpolicy_store_open", "radpolicy_store_pair", "radpolicy_store_place",
-            "radpolicy_store_redo", "radpolicy_store_rollback", "radpolicy_store_settle", "radpolicy_store_undo"]
+EXPORTED = ["radpolicy_answer", "radpolicy_attribute_name", "radpolicy_attribute_named", "radpolicy_close",
+            "radpolicy_dictionary_close", "radpolicy_dictionary_open", "radpolicy_dictionary_share", "radpolicy_open",
+            "radpolicy_policy_open", "radpolicy_reply", "radpolicy_run", "radpolicy_run_pairs", "radpolicy_share",
+            "radpolicy_store_close", "radpolicy_store_count", "radpolicy_store_edit", "radpolicy_store_open",
+            "radpolicy_store_pair", "radpolicy_store_place", "radpolicy_store_redo", "radpolicy_store_rollback",
+            "radpolicy_store_settle", "radpolicy_store_undo"]
 CLIENT = "radclient"
 SECRET = "testing123"
 POLICY = 'update reply { Reply-Message := "hello" }\nif (&User-Name == "eve") { reject }\n'
 ASKED = "User-Name = {}, User-Password = hello, Message-Authenticator = 0x00\n"
 FORMS = {"--hex": 0, "--acct": 2}
 PAIRS, ROOM = 3 * 4096, 1 << 20
-
-
-class Pair(ctypes.Structure):
-    _fields_ = [(name, ctypes.c_size_t) for name in ("value", "value_length", "line", "line_length", "name_length")] + [
-        ("within", ctypes.c_uint32), ("number", ctypes.c_uint32), ("kind", ctypes.c_uint8)]
-
-
-class Lists(ctypes.Structure):
-    _fields_ = [(name, ctypes.c_size_t) for name in ("packet_length", "octets_length", "request_count", "reply_count",
-                                                     "control_count")] + [
-        ("code", ctypes.c_uint8), ("sends", ctypes.c_uint8), ("stopped", ctypes.c_bool)]
-
-
-def example(subject: Subject) -> ModuleType:
-    """The example in Python, as a module."""
-    spec = importlib.util.spec_from_file_location("run_policy", subject.root / "examples" / "python" / "run_policy.py")
-    module = importlib.util.module_from_spec(spec)
-    spec.loader.exec_module(module)
-    return module
 
 
 def words_of(case: Case) -> Tuple[dict, List[str]]:
@@ -64,14 +45,14 @@ def words_of(case: Case) -> Tuple[dict, List[str]]:
     return options, files
 
 
-def request_of(case: Case, options: dict, python: ModuleType):
+def request_of(case: Case, options: dict):
     """The request of a case, as C gives it."""
     form = options.get("form", 1)
     octets = case.files[options["-f"]] if "-f" in options else case.stdin
     secret = case.files[options["-S"]].split(b"\n")[0] if "-S" in options else None
-    asked = python.Request(python.octets(bytes.fromhex(octets.decode()) if form == 0 else octets),
-                           python.octets(secret or b""), python.octets(b""), python.octets(b""), form=form,
-                           identifier=int(options.get("-i", "0")), has_secret=secret is not None)
+    asked = Request(slice_of(bytes.fromhex(octets.decode()) if form == 0 else octets), slice_of(secret or b""),
+                    slice_of(b""), slice_of(b""), form=form, identifier=int(options.get("-i", "0")),
+                    has_secret=secret is not None)
     if "--authenticator" in options:
         asked.has_authenticator = True
         asked.authenticator[:] = bytes.fromhex(options["--authenticator"])
@@ -132,21 +113,20 @@ def reply_told(library: ctypes.CDLL, asked: Tuple, ran: ctypes.Structure, packet
     return wrong
 
 
-def told_by(library: ctypes.CDLL, python: ModuleType, case: Case) -> Tuple[int, bytes, List[str]]:
+def told_by(library: ctypes.CDLL, case: Case) -> Tuple[int, bytes, List[str]]:
     """The status, and the report or the line of the fault, that the library tells of a case; and what it tells otherwise
     of the pairs."""
     options, names = words_of(case)
-    policy, told, room = python.Policy(), ctypes.c_size_t(), ctypes.create_string_buffer(ROOM)
+    policy, told, room = Policy(), ctypes.c_size_t(), ctypes.create_string_buffer(ROOM)
     size = ctypes.c_size_t(len(room))
-    files = (python.File * len(names))(*(python.File(python.octets(n.encode()), python.octets(case.files[n]))
-                                         for n in names))
+    files = (File * len(names))(*(File(slice_of(n.encode()), slice_of(case.files[n])) for n in names))
     text = case.files[options["--policy"]]
     status = library.radpolicy_open(ctypes.byref(policy), files, ctypes.c_size_t(len(names)), text,
                                     ctypes.c_size_t(len(text)), room, size, ctypes.byref(told))
     wrong = []
     if status == 0:
-        outcome, packet = python.Outcome(), ctypes.create_string_buffer(4096)
-        asked = ctypes.byref(policy), ctypes.byref(request_of(case, options, python))
+        outcome, packet = Outcome(), ctypes.create_string_buffer(4096)
+        asked = ctypes.byref(policy), ctypes.byref(request_of(case, options))
         status = library.radpolicy_run(*asked, ctypes.byref(outcome), packet, ctypes.c_size_t(len(packet)), room, size)
         told.value = outcome.report_length
         wrong = pairs_told(library, asked, case, room.raw[: told.value])
@@ -156,10 +136,16 @@ def told_by(library: ctypes.CDLL, python: ModuleType, case: Case) -> Tuple[int, 
     return status, room.raw[: told.value], wrong
 
 
+def faults_of_versions(subject: Subject) -> List[str]:
+    """What has another version than the change log's first heading."""
+    version = re.search(r"^## (\S+)", (subject.root / "CHANGELOG.md").read_text(), re.M)[1]
+    wanted = {"c/radpolicy.h": f'#define RADPOLICY_VERSION "{version}"\n', "python/radpolicy.py": f'__version__ = "{version}"\n'}
+    return [f"{name}: no {line!r}" for name, line in wanted.items() if line not in (subject.root / name).read_text()]
+
+
 def check_cases(subject: Subject, report: Report, made: Path) -> None:
     """Each case of `run` that names files which exist."""
-    python = example(subject)
-    library = python.load(str(made))
+    library = load(str(made))
     library.radpolicy_run_pairs.restype = ctypes.c_uint8
     library.radpolicy_reply.restype = ctypes.c_uint8
     for folder in (subject.root / "examples", subject.root / "tests" / "cases"):
@@ -171,7 +157,7 @@ def check_cases(subject: Subject, report: Report, made: Path) -> None:
             with new_folder() as place:
                 case.place(place)
                 ended = run([subject.program, *case.words], place, case.stdin)
-            status, text, wrong = told_by(library, python, case)
+            status, text, wrong = told_by(library, case)
             same = (status, text) == (ended.status, ended.errors.splitlines(True)[0] if ended.status else ended.output)
             fault = f"it tells {status} {text!r}, and the program {ended}"
             report.check(f"the library tells of {case.name} what the program prints", wrong + [fault] * (not same))
@@ -180,10 +166,10 @@ def check_cases(subject: Subject, report: Report, made: Path) -> None:
 def check_example(subject: Subject, report: Report, made: Path) -> None:
     """The example in Python as a program."""
     folder = subject.root / "examples" / "reply"
-    words = [sys.executable, subject.root / "examples" / "python" / "run_policy.py", made,
-             folder / "secret", folder / "policy",
-             *sorted((subject.root / "dictionaries").glob("dictionary*"))]
-    ended = run(words, folder, (folder / "packet").read_bytes())
+    words = [sys.executable, subject.root / "examples" / "python" / "run_policy.py", folder / "secret",
+             folder / "policy", *sorted((subject.root / "dictionaries").glob("dictionary*"))]
+    found = {"PYTHONPATH": str(subject.root / "python"), "RADPOLICY_LIBRARY": str(made), "PYTHONDONTWRITEBYTECODE": "1"}
+    ended = run(words, folder, (folder / "packet").read_bytes(), found)
     same = ended.output == (folder / "output").read_bytes()
     report.check("the example in Python prints what the program prints", [] if same else [repr(ended)])
 
@@ -226,9 +212,10 @@ def check(subject: Subject, report: Report) -> None:
         shown = subprocess.run(["nm", "-D", "--defined-only", made], capture_output=True, text=True, check=True)
         names = sorted(line.split()[-1] for line in shown.stdout.splitlines())
         report.check("the library shows its own calls alone", [] if names == EXPORTED else [f"it shows {names}"])
+        report.check("the library has one version", faults_of_versions(subject))
         check_cases(subject, report, made)
-        python = example(subject)
-        jobs.check(subject, report, python.load(str(made)), python)
+        jobs.check(subject, report, load(str(made)))
+        module.check(subject, report, made)
         check_example(subject, report, made)
         check_responder(subject, report, folder)
         words, packet = watched.case_of_a_packet(subject)

@@ -1,12 +1,12 @@
 """Whole jobs by the library for C: each answer is what the program prints of the same command."""
 import ctypes
-from types import ModuleType
 from typing import List, Tuple
 
 from common.cases import Case, cases_below
 from common.program import run
 from common.report import Report
 from common.subject import Subject, new_folder
+from library.structures import File, Slice, slice_of
 
 COMMANDS = ("run", "step", "encode", "decode", "check")
 FORMS = {"--hex": 0, "--acct": 2}
@@ -14,25 +14,20 @@ FILES = {"-f": "request", "-S": "secret", "--policy": "policy", "--script": "scr
 ROOM = 1 << 20
 
 
-def job_type(python: ModuleType) -> type:
-    """The job of the header, over the structures of the example in Python."""
-
-    class Job(ctypes.Structure):
-        _fields_ = [("files", ctypes.POINTER(python.File)), ("file_count", ctypes.c_size_t)] + [
-            (name, python.Slice) for name in ("request", "secret", "policy", "script")] + [
-            ("authenticator", ctypes.c_uint8 * 16), ("command", ctypes.c_uint8), ("form", ctypes.c_uint8),
-            ("identifier", ctypes.c_uint8)] + [
-            (name, ctypes.c_bool) for name in ("has_authenticator", "has_secret", "has_policy", "has_script")]
-
-    return Job
+class Job(ctypes.Structure):
+    _fields_ = [("files", ctypes.POINTER(File)), ("file_count", ctypes.c_size_t)] + [
+        (name, Slice) for name in ("request", "secret", "policy", "script")] + [
+        ("authenticator", ctypes.c_uint8 * 16), ("command", ctypes.c_uint8), ("form", ctypes.c_uint8),
+        ("identifier", ctypes.c_uint8)] + [
+        (name, ctypes.c_bool) for name in ("has_authenticator", "has_secret", "has_policy", "has_script")]
 
 
-def job_of(case: Case, python: ModuleType):
+def job_of(case: Case) -> Job:
     """The job of a case's command line."""
     words, names = [word.decode() for word in case.words], []
-    job = job_type(python)(command=COMMANDS.index(words[0]), form=0 if words[0] == "decode" else 1)
-    job.request = python.octets(case.stdin)
-    job.secret = job.policy = job.script = python.octets(b"")
+    job = Job(command=COMMANDS.index(words[0]), form=0 if words[0] == "decode" else 1)
+    job.request = slice_of(case.stdin)
+    job.secret = job.policy = job.script = slice_of(b"")
     words = words[1:]
     while words:
         word = words.pop(0)
@@ -44,12 +39,12 @@ def job_of(case: Case, python: ModuleType):
             job.has_authenticator = True
             job.authenticator[:] = bytes.fromhex(words.pop(0))
         elif word in FILES:
-            setattr(job, FILES[word], python.octets(case.files[words.pop(0)]))
+            setattr(job, FILES[word], slice_of(case.files[words.pop(0)]))
             if word != "-f":
                 setattr(job, f"has_{FILES[word]}", True)
         else:
             names.append(word)
-    files = (python.File * len(names))(*(python.File(python.octets(name.encode()), python.octets(case.files[name]))
+    files = (File * len(names))(*(File(slice_of(name.encode()), slice_of(case.files[name]))
                                          for name in names))
     job.files, job.file_count = files, len(names)
     return job
@@ -62,16 +57,16 @@ def answer_of(library: ctypes.CDLL, job) -> Tuple[int, bytes]:
     return status, room.raw[:told.value]
 
 
-def broken(case: Case, python: ModuleType) -> List:
+def broken(case: Case) -> List[Job]:
     """Jobs whose parts do not go together."""
-    jobs = [job_of(case, python) for _ in range(3)]
+    jobs = [job_of(case) for _ in range(3)]
     jobs[0].file_count = 0
     jobs[1].command = len(COMMANDS)
     jobs[2].form = 3
     return jobs
 
 
-def check(subject: Subject, report: Report, library: ctypes.CDLL, python: ModuleType) -> None:
+def check(subject: Subject, report: Report, library: ctypes.CDLL) -> None:
     """Each case that names files which exist, and the same as jobs whose parts do not go together."""
     library.radpolicy_answer.restype = ctypes.c_uint8
     for folder in (subject.root / "examples", subject.root / "tests" / "cases"):
@@ -82,8 +77,8 @@ def check(subject: Subject, report: Report, library: ctypes.CDLL, python: Module
                 case.place(place)
                 ended = run([subject.program, *case.words], place, case.stdin)
             wanted = ended.status, ended.errors.splitlines(True)[0] if ended.status else ended.output
-            said = answer_of(library, job_of(case, python))
+            said = answer_of(library, job_of(case))
             wrong = [] if said == wanted else [f"{said}, and the program {wanted}"]
-            wrong += [f"a broken job: {said}" for said in (answer_of(library, job) for job in broken(case, python))
+            wrong += [f"a broken job: {said}" for said in (answer_of(library, job) for job in broken(case))
                       if said != (2, b"radpolicy: E02: option value\n")]
             report.check(f"the library answers {case.name} as the program does", wrong)

@@ -237,9 +237,11 @@ pub(crate) fn program<'a>(alloc: Global) -> Result<clap::Command<'a>, AllocError
         .subcommand(check_command(alloc)?)
 }
 
-// The fault of a parse that failed.
-fn fault_of(error: &clap::Error) -> Fault
+/// The fault of a command line that [`clap`] refused: [`Fault::Help`] where help was asked for, E09 where there was no
+/// memory, else E01.
+pub fn word_fault(error: &clap::Error) -> Fault
     ensures help { result ≡ Help → kind_of error.now ≡ ErrorKind.DisplayHelp }
+    ensures memory { result ≡ Memory → kind_of error.now ≡ ErrorKind.OutOfMemory }
     ensures usage { result ≡ Usage → kind_of error.now ≢ ErrorKind.OutOfMemory }
     ensures no_help { result ≡ Usage → kind_of error.now ≢ ErrorKind.DisplayHelp }
     ensures value { result ≢ OptionValue }
@@ -502,7 +504,7 @@ pub fn read_words<'a, S: AsStr>(alloc: Global, words: &'a [S]) -> Result<Plan<'a
 {
     let matches = match program(alloc)?.try_get_matches_from(words) {
         Ok(matches) => matches,
-        Err(error) => return Err(fault_of(&error)),
+        Err(error) => return Err(word_fault(&error)),
     };
     match command_in(&matches) {
         Some((command, found)) => plan_of(alloc, command, found),

@@ -23,7 +23,7 @@ mod secrets;
 mod starts;
 
 pub use answers::answer;
-pub use command_line::{help_text, read_words};
+pub use command_line::{help_text, read_words, word_fault};
 pub use fault_lines::print_fault;
 pub use faults::{Fault, status};
 pub use heads::{RequestHead, RequestKind};

@@ -1,4 +1,5 @@
 pub mod Answers
+pub mod Attributes
 pub mod Closing
 pub mod Dictionaries
 pub mod Files

@@ -6,31 +6,11 @@ use Rattle.avp_dict.specs.Octets.{octets}
 use Rattle.avp_forms.specs.Printing.{printed_pair_name, printed_pair_text}
 use Rattle.avp_forms.specs.declared.profiles.Profile.{Profile}
 use Rattle.avp_lists.specs.declared.lists.State.{State}
-use Rattle.avp_lists.specs.declared.pairs.AttrId.{AttrId}
-use Rattle.avp_lists.specs.declared.pairs.AttrId.TheVariants.{Extended, Plain, Vendor}
 use Rattle.avp_lists.specs.declared.pairs.Pair.{Pair}
 use Rattle.radpolicy.specs.RunOutcomes.{RunOutcome}
+use Rattle.radpolicy_c.specs.Attributes.{kind_number, own_number, within_number}
 use Rattle.radpolicy_c.specs.declared.pairs.RadpolicyPair.{RadpolicyPair}
 use Rattle.radpolicy_c.specs.declared.pairs.ToldLists.{ToldLists}
-
--- ---- attributes
-
--- the kind of an attribute: a plain one, a vendor's (RFC 2865, section 5.26), or an extended one (RFC 6929, section 2)
-abbrev pub kind_number : AttrId → ℕ
-kind_number (Plain number) = 0
-kind_number (Vendor vendor number) = 1
-kind_number (Extended type number) = 2
-
--- the vendor, or the type of an extended attribute, within which the attribute has its number
-abbrev pub within_number : AttrId → ℕ
-within_number (Plain number) = 0
-within_number (Vendor vendor number) = vendor
-within_number (Extended type number) = type
-
-abbrev pub own_number : AttrId → ℕ
-own_number (Plain number) = number
-own_number (Vendor vendor number) = number
-own_number (Extended type number) = number
 
 -- ---- the octets of pairs
 

@@ -1,16 +1,15 @@
 -- The edits and the pairs of a store, as C gives and sees them.
-use Rattle.std.specs.Prelude.{ℕ, Bool, ◌==◌, ◌&&◌, if◌then◌else◌, List, [], Option, None, Some, length, nat_le}
+use Rattle.std.specs.Prelude.{ℕ, ◌==◌, if◌then◌else◌, List, [], Option, None, Some, length}
 use Rattle.avp_lists.specs.declared.edits.Edit.{Edit}
 use Rattle.avp_lists.specs.declared.edits.Op.{Op}
 use Rattle.avp_lists.specs.declared.edits.Op.TheVariants.{AddNew, Append, KeepEqual, Prepend, RemoveAll, RemoveEqual, Replace}
 use Rattle.avp_lists.specs.declared.lists.List.{List as WhichList}
 use Rattle.avp_lists.specs.declared.lists.List.TheVariants.{Control, Reply, Request}
 use Rattle.avp_lists.specs.declared.pairs.AttrId.{AttrId}
-use Rattle.avp_lists.specs.declared.pairs.AttrId.TheVariants.{Extended, Plain, Vendor}
 use Rattle.avp_lists.specs.declared.pairs.Pair.{Pair}
 use Rattle.avp_lists.specs.declared.pairs.Value.{Value}
 use Rattle.avp_lists.specs.declared.pairs.Value.TheVariants.{Bytes}
-use Rattle.radpolicy_c.specs.Pairs.{kind_number, own_number, within_number}
+use Rattle.radpolicy_c.specs.Attributes.{id_given, kind_number, own_number, within_number}
 use Rattle.radpolicy_c.specs.declared.store_pairs.RadpolicyEdit.{RadpolicyEdit}
 use Rattle.radpolicy_c.specs.declared.store_pairs.RadpolicyStorePair.{RadpolicyStorePair}
 
@@ -31,19 +30,6 @@ operator_given n =
     else if n == 4 then Some RemoveEqual
     else if n == 5 then Some KeepEqual
     else if n == 6 then Some RemoveAll
-    else None
-
--- an extended attribute, whose type and number are octets (RFC 6929, section 2)
-abbrev pub extended_given : ℕ → ℕ → Option AttrId
-extended_given type number =
-    if nat_le type 255 && nat_le number 255 then Some (Extended type number) else None
-
--- the attribute of a kind, within a vendor or a type, and with a number
-abbrev pub id_given : ℕ → ℕ → ℕ → Option AttrId
-id_given kind within number =
-    if kind == 0 then Some (Plain number)
-    else if kind == 1 then Some (Vendor within number)
-    else if kind == 2 then extended_given within number
     else None
 
 abbrev pub edit_of : Option WhichList → Option Op → Option AttrId → List ℕ → Option Edit

@@ -1,13 +1,16 @@
 //! The handle that C keeps for a dictionary, which serves several policies.
 
 ghost use Rattle.std.specs.Prelude.{◌≡◌, Some, None, IfOk, IfErr, map};
+ghost use Rattle.avp_dict.specs.Names.{named};
 ghost use Rattle.radpolicy.specs.Faults.{IsPrintedAnywhere, IsPrintedWith, MemoryOr};
 ghost use Rattle.radpolicy.specs.JobReports.{IsRefusedAsPolicy};
+ghost use Rattle.radpolicy_c.specs.Attributes.{TellsAttribute, TellsEntry, TellsName, TellsNamed, attribute_given, entry_there};
 ghost use Rattle.radpolicy_c.specs.Dictionaries.{OpensDictionary, OpensPolicy, dictionary_held};
 ghost use Rattle.radpolicy_c.specs.Files.{file_given};
 ghost use Rattle.radpolicy_c.specs.Opening.{IsReadFrom, IsReadRefusal, IsSpelledBy};
 ghost use Rattle.radpolicy_c.specs.Sharing.{SharesBy};
 
+use crate::attributes::{RadpolicyAttribute, tell_name, tell_named};
 use crate::files::{RadpolicyFile, file_set_of};
 use crate::handles::RadpolicyPolicy;
 use crate::opening::{Opening, boxed, dictionary_of, nothing_told, refusal};
@@ -34,6 +37,76 @@ impl RadpolicyDictionary {
     {
         self.empty_policy.share(alloc, &mut other.empty_policy)
     }
+
+    /// Tells the attribute for which a name stands in the dictionary that is held.
+    pub(crate) fn tell_attribute(
+        &mut self,
+        alloc: Global,
+        name: &[u8],
+        told: &mut RadpolicyAttribute,
+    ) -> Status
+        ensures kept { dictionary_held self.new ≡ dictionary_held self.old }
+        ensures tells { TellsAttribute result name.now (dictionary_held self.old) told.new }
+    {
+        match mem::replace(&mut self.empty_policy, RadpolicyPolicy::closed()).into_box(alloc) {
+            Some(empty) => {
+                let status = tell_named_by(&empty, name, told);
+                mem::replace(&mut self.empty_policy, RadpolicyPolicy::of(empty)).end();
+                status
+            }
+            None => {
+                *told = RadpolicyAttribute::none();
+                Status::Closed
+            }
+        }
+    }
+
+    /// Tells the name of the attribute of these numbers in the dictionary that is held.
+    pub(crate) fn tell_name(
+        &mut self,
+        alloc: Global,
+        asked: RadpolicyAttribute,
+        room: &mut [u8],
+        name_length: &mut usize,
+    ) -> Status
+        ensures kept { dictionary_held self.new ≡ dictionary_held self.old }
+        ensures tells { TellsName result asked (dictionary_held self.old) name_length.new room.old
+            room.new }
+    {
+        match mem::replace(&mut self.empty_policy, RadpolicyPolicy::closed()).into_box(alloc) {
+            Some(empty) => {
+                let status = tell_name_by(&empty, asked, room, name_length);
+                mem::replace(&mut self.empty_policy, RadpolicyPolicy::of(empty)).end();
+                status
+            }
+            None => {
+                *name_length = 0;
+                Status::Closed
+            }
+        }
+    }
+}
+
+// By the dictionary of this policy.
+fn tell_named_by(empty: &SharedPolicy, name: &[u8], told: &mut RadpolicyAttribute) -> Status
+    ensures { TellsNamed result (named name.now empty.now.dictionary) told.new }
+{
+    let prepared = empty.policy().prepared();
+    tell_named(prepared.dictionary(), name, told)
+}
+
+// By the dictionary of this policy.
+fn tell_name_by(
+    empty: &SharedPolicy,
+    asked: RadpolicyAttribute,
+    room: &mut [u8],
+    name_length: &mut usize,
+) -> Status
+    ensures { TellsEntry result (entry_there (attribute_given asked) empty.now.dictionary)
+        name_length.new room.old room.new }
+{
+    let prepared = empty.policy().prepared();
+    tell_name(prepared.dictionary(), asked, room, name_length)
 }
 
 // The policy of no statements by the dictionary of these files.

@@ -3,6 +3,8 @@
 #![tactic(auto)]
 
 mod answers;
+mod attribute_calls;
+mod attributes;
 mod dictionaries;
 mod exports;
 mod files;
@@ -25,6 +27,8 @@ mod store_pairs;
 mod stores;
 
 pub use answers::Answered;
+pub use attribute_calls::{radpolicy_attribute_name, radpolicy_attribute_named};
+pub use attributes::RadpolicyAttribute;
 pub use dictionaries::RadpolicyDictionary;
 pub use exports::{
     radpolicy_answer, radpolicy_close, radpolicy_dictionary_close, radpolicy_dictionary_open,

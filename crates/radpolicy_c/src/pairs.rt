@@ -5,11 +5,12 @@ ghost use Rattle.avp_dict.specs.Limits.{fits};
 ghost use Rattle.avp_lists.specs.History.{present};
 ghost use Rattle.avp_lists.specs.States.{list_of};
 ghost use Rattle.avp_unlang.specs.Resolutions.{StateFits};
-ghost use Rattle.radpolicy_c.specs.Pairs.{all_pairs, kind_number, no_lists, octets_told, outcome_lists, outcome_octets, own_number, pair_octets, pair_told, pairs_told, within_number};
+ghost use Rattle.radpolicy_c.specs.Pairs.{all_pairs, no_lists, octets_told, outcome_lists, outcome_octets, pair_octets, pair_told, pairs_told};
 
+use crate::attributes::RadpolicyAttribute;
 use avp_dict::Dictionary;
 use avp_forms::{Profile, printed_pair_name, printed_pair_text};
-use avp_lists::{AttrId, List, Octets, Pair, Store};
+use avp_lists::{List, Octets, Pair, Store};
 use radpolicy::RunOutcome;
 use std::alloc::{AllocError, Global};
 use std::marker::Model;
@@ -93,35 +94,6 @@ struct CollectedPairs {
     octets: Vec<u8>,
 }
 
-fn kind_number(id: AttrId) -> u8
-    ensures { result ≡ kind_number id }
-{
-    match id {
-        AttrId::Plain(_) => 0,
-        AttrId::Vendor(_, _) => 1,
-        AttrId::Extended(_, _) => 2,
-    }
-}
-
-fn within_number(id: AttrId) -> u32
-    ensures { result ≡ within_number id }
-{
-    match id {
-        AttrId::Plain(_) => 0,
-        AttrId::Vendor(vendor, _) => vendor,
-        AttrId::Extended(kind, _) => u32::from(kind),
-    }
-}
-
-fn own_number(id: AttrId) -> u32
-    ensures { result ≡ own_number id }
-{
-    match id {
-        AttrId::Plain(number) | AttrId::Vendor(_, number) => number,
-        AttrId::Extended(_, number) => u32::from(number),
-    }
-}
-
 impl CollectedPairs {
     // A pair after those before it.
     fn push(
@@ -143,6 +115,7 @@ impl CollectedPairs {
         let start = self.octets.len();
         self.octets.extend_from_slice(value.as_slice())?;
         let line = self.octets.len();
+        let attribute = RadpolicyAttribute::of(pair.id);
         self.octets.extend_from_slice(name.as_slice())?;
         self.octets.extend_from_slice(b" = ")?;
         self.octets.extend_from_slice(text.as_slice())?;
@@ -152,9 +125,9 @@ impl CollectedPairs {
             line,
             line_length: self.octets.len() - line,
             name_length: name.len(),
-            within: within_number(pair.id),
-            number: own_number(pair.id),
-            kind: kind_number(pair.id),
+            within: attribute.within,
+            number: attribute.number,
+            kind: attribute.kind,
         })?;
         Ok(())
     }

@@ -2,12 +2,13 @@
 
 ghost use Rattle.std.specs.Prelude.{◌≡◌, IfOk};
 ghost use Rattle.radpolicy_c.specs.Rooms.{room_told, status_told};
-ghost use Rattle.radpolicy_c.specs.StorePairs.{edit_given, id_given, list_given, extended_given, no_pair, octets_held, operator_given, pair_shown};
+ghost use Rattle.radpolicy_c.specs.StorePairs.{edit_given, list_given, no_pair, octets_held, operator_given, pair_shown};
 ghost use Rattle.radpolicy_c.specs.declared.statuses.Status.TheVariants.{Done};
 
+use crate::attributes::RadpolicyAttribute;
 use crate::lines::tell;
 use crate::statuses::Status;
-use avp_lists::{AttrId, Edit, List, Octets, Op, Pair, Value};
+use avp_lists::{Edit, List, Octets, Op, Pair, Value};
 use std::alloc::{AllocError, Global};
 
 /// A change of one list by one pair.
@@ -78,27 +79,6 @@ fn operator_given(number: u8) -> Option<Op>
     }
 }
 
-fn extended_given(within: u32, number: u32) -> Option<AttrId>
-    ensures { result ≡ extended_given within number }
-{
-    if within <= 255 && number <= 255 {
-        Some(AttrId::Extended(within as u8, number as u8))
-    } else {
-        None
-    }
-}
-
-fn id_given(kind: u8, within: u32, number: u32) -> Option<AttrId>
-    ensures { result ≡ id_given kind within number }
-{
-    match kind {
-        0 => Some(AttrId::Plain(number)),
-        1 => Some(AttrId::Vendor(within, number)),
-        2 => extended_given(within, number),
-        _ => None,
-    }
-}
-
 /// The edit, where its numbers name one.
 pub(crate) fn edit_given(
     alloc: Global,
@@ -108,7 +88,12 @@ pub(crate) fn edit_given(
 {
     let list = list_given(asked.list);
     let operator = operator_given(asked.op);
-    let id = id_given(asked.kind, asked.within, asked.number);
+    let attribute = RadpolicyAttribute {
+        within: asked.within,
+        number: asked.number,
+        kind: asked.kind,
+    };
+    let id = attribute.id();
     let (Some(list), Some(op), Some(id)) = (list, operator, id) else {
         return Ok(None);
     };
@@ -130,26 +115,16 @@ fn octets_held(value: &Value) -> &[u8]
 fn pair_shown(pair: &Pair) -> RadpolicyStorePair
     ensures { result ≡ pair_shown pair.now }
 {
-    let value_length = octets_held(&pair.value).len();
-    match pair.id {
-        AttrId::Plain(number) => RadpolicyStorePair {
-            value_length,
-            within: 0,
-            number,
-            kind: 0,
-        },
-        AttrId::Vendor(vendor, number) => RadpolicyStorePair {
-            value_length,
-            within: vendor,
-            number,
-            kind: 1,
-        },
-        AttrId::Extended(extended, number) => RadpolicyStorePair {
-            value_length,
-            within: extended as u32,
-            number: number as u32,
-            kind: 2,
-        },
+    let RadpolicyAttribute {
+        within,
+        number,
+        kind,
+    } = RadpolicyAttribute::of(pair.id);
+    RadpolicyStorePair {
+        value_length: octets_held(&pair.value).len(),
+        within,
+        number,
+        kind,
     }
 }
 

@@ -6,13 +6,14 @@ ghost use Rattle.radpolicy.specs.Faults.{IsPrintedWith, status_of};
 ghost use Rattle.radpolicy.specs.Plans.{IsSound, asked_by_job, asked_by_plan};
 
 use avp_dict::FileSet;
-use radpolicy::{Fault, Job, Outcome, Plan, WriteOutput, answer, help_text, read_words, status};
-use radpolicy_common::{Unread, job_of, refuse, refuse_early, refuse_unread};
+use radpolicy::{Fault, Job, Outcome, Plan, WriteOutput, answer, help_text, read_words};
+use radpolicy_common::{
+    Unread, command_words, job_of, refuse, refuse_early, refuse_unread, show_help,
+};
 use radpolicy_help::{
     Sources, explain, explain_words, is_help_wanted, refuse_with_help, stop_text, tell_unread,
     warnings_text,
 };
-use std::io;
 use std::process::ExitCode;
 
 // Refuses the words of the command line.
@@ -25,16 +26,6 @@ fn refuse_words(rt: &HostRuntime, fault: &Fault, words: &[String]) -> u8
     }
     let help = explain_words(rt.alloc(), fault, words);
     refuse_with_help(rt, fault, &FileSet::from_vec(Vec::new(rt.alloc())), help)
-}
-
-fn show_help(rt: &HostRuntime, words: &[String]) -> u8 {
-    match help_text(rt.alloc(), words) {
-        Ok(text) => match rt.print(text.as_str()) {
-            Ok(()) => status(&Fault::Help),
-            Err(_) => refuse_early(rt, &Fault::Write),
-        },
-        Err(_) => refuse_early(rt, &Fault::Memory),
-    }
 }
 
 // Prints why the run of a job was stopped, if it was and there is memory for it.
@@ -107,23 +98,15 @@ fn run_plan(rt: &HostRuntime, plan: &Plan) -> u8
 fn run_words(rt: &HostRuntime, words: &[String]) -> u8 {
     match read_words(rt.alloc(), words) {
         Ok(plan) => run_plan(rt, &plan),
-        Err(Fault::Help) => show_help(rt, words),
+        Err(Fault::Help) => show_help(rt, help_text(rt.alloc(), words)),
         Err(fault) => refuse_words(rt, &fault, words),
     }
 }
 
-// The words of the command line. Words that are no UTF-8 are an error.
-fn words_of(rt: &HostRuntime) -> io::Result<Vec<String>> {
-    Ok(std::env::args(rt)?.collect(rt.alloc())?)
-}
-
 fn main(rt: HostRuntime) -> ExitCode {
-    let code = match words_of(&rt) {
+    let code = match command_words(&rt) {
         Ok(words) => run_words(&rt, words.as_slice()),
-        Err(error) if error.kind() == io::ErrorKind::OutOfMemory => {
-            refuse_early(&rt, &Fault::Memory)
-        }
-        Err(_) => refuse_early(&rt, &Fault::Usage),
+        Err(code) => code,
     };
     ExitCode::from(code)
 }

@@ -8,6 +8,8 @@ use Rattle.std.specs.declared.net.ip_addr.IpAddr.{IpAddr}
 use Rattle.std.specs.declared.net.ip_addr.IpAddr.TheVariants.{V4, V6}
 use Rattle.std.specs.declared.net.ipv4_addr.Ipv4Addr.{Ipv4Addr}
 use Rattle.std.specs.declared.net.ipv6_addr.Ipv6Addr.{Ipv6Addr}
+use Rattle.avp_dict.specs.Letters.{is_decimal}
+use Rattle.avp_forms.specs.Prefixes.{is_slash}
 
 -- ---- texts
 
@@ -37,12 +39,6 @@ bits_of (V4 a) = 32
 bits_of (V6 a) = 128
 
 -- ---- prefixes
-
-abbrev pub is_slash : ℕ → Bool
-is_slash o = o == 47
-
-abbrev pub is_decimal : ℕ → Bool
-is_decimal o = nat_le 48 o && nat_le o 57
 
 -- a number of one to three decimal digits
 abbrev pub small_number : List ℕ → Option ℕ

@@ -2,7 +2,9 @@
 
 ghost use Rattle.std.specs.Prelude.{◌≡◌, ◌<◌, ◌-◌, ◌/◌, ◌^◌, ◌==◌, ◌≤◌, ℕ, IfSome, length};
 ghost use Rattle.std.specs.List.{position};
-ghost use Rattle.radpolicy_clients.specs.Addresses.{address_of, begins_as, bits_of, cut_prefix, is_decimal, is_slash, prefix_of, prefix_with, same_bits, small_number, whole_prefix, within};
+ghost use Rattle.avp_dict.specs.Letters.{is_decimal};
+ghost use Rattle.avp_forms.specs.Prefixes.{is_slash};
+ghost use Rattle.radpolicy_clients.specs.Addresses.{address_of, begins_as, bits_of, cut_prefix, prefix_of, prefix_with, same_bits, small_number, whole_prefix, within};
 
 use std::net::IpAddr;
 

@@ -4,9 +4,8 @@ ghost use Rattle.std.specs.Prelude.{IfErr};
 ghost use Rattle.radpolicy.specs.Faults.{IsWordFault};
 
 use avp_forms::Profile;
-use clap::error::ErrorKind;
 use clap::{Arg, ArgAction, ArgMatches};
-use radpolicy::Fault;
+use radpolicy::{Fault, word_fault};
 use radpolicy_common::SecretValues;
 use radpolicy_import_policies::{LineEnds, Meaning, Stubs};
 use std::alloc::{AllocError, Global};
@@ -250,17 +249,6 @@ fn program<'a>(alloc: Global) -> Result<clap::Command<'a>, AllocError> {
         .arg(configuration_files(alloc))
 }
 
-// The fault of a parse that failed.
-fn fault_of(error: &clap::Error) -> Fault
-    ensures { IsWordFault result }
-{
-    match error.kind() {
-        ErrorKind::DisplayHelp => Fault::Help,
-        ErrorKind::OutOfMemory => Fault::Memory,
-        _ => Fault::Usage,
-    }
-}
-
 fn all_of<'a>(
     alloc: Global,
     found: &ArgMatches<'a>,
@@ -381,7 +369,7 @@ pub fn read_words<'a, S: AsStr>(alloc: Global, words: &'a [S]) -> Result<Plan<'a
 {
     let matches = program(alloc)?
         .try_get_matches_from(words)
-        .map_err(|error| fault_of(&error))?;
+        .map_err(|error| word_fault(&error))?;
     plan_of(alloc, &matches)
 }
 

@@ -5,6 +5,7 @@ mod command_line;
 mod json_reports;
 mod outputs;
 mod reports;
+mod sections;
 mod sources;
 
 ghost use Rattle.std.specs.Prelude.{◌<◌, IfErr, IfOk, length};
@@ -17,6 +18,7 @@ use crate::reports::{
     OthersReport, refuse_value, show_fault, show_initial_fault, show_initial_line, show_others,
     show_report,
 };
+use crate::sections::tell_lack;
 use crate::sources::{
     FIRST, Given, NamedFiles, first_file, main_file, name_files, read_given, system_dictionaries,
     with_main, with_names,
@@ -26,8 +28,8 @@ use avp_forms::Profile;
 use avp_unlang::Items;
 use radpolicy::{Fault, status};
 use radpolicy_common::{
-    Hiding, Redaction, SecretValues, named_attributes, read_dictionary_set, refuse, refuse_early,
-    refuse_outputs,
+    Hiding, Redaction, SecretValues, command_words, named_attributes, read_dictionary_set, refuse,
+    refuse_early, refuse_outputs, show_help,
 };
 use radpolicy_help::{
     Sources, refuse_explained, refuse_name, refuse_unread_explained, refuse_words_of,
@@ -41,7 +43,6 @@ use radpolicy_import_policies::{
 use radpolicy_import_texts::SecretNames;
 use server_configuration::{Configuration, ConfigurationFault, SystemFiles, read_configuration};
 use std::alloc::{AllocError, Global};
-use std::io;
 use std::process::ExitCode;
 
 /// What the program is called in its faults and in the files that it writes.
@@ -170,11 +171,11 @@ fn imported(
     }
 }
 
-fn refuse_section(rt: &HostRuntime, plan: &Plan<'_>) -> u8 {
-    match plan.policy {
-        Some(name) => refuse_value(rt, name),
-        None => refuse_value(rt, plan.section.unwrap_or("authorize")),
-    }
+fn refuse_section(rt: &HostRuntime, plan: &Plan<'_>, configuration: &Configuration) -> u8 {
+    let word = plan.policy.or(plan.section).unwrap_or("authorize");
+    let status = refuse_value(rt, word);
+    tell_lack(rt, configuration, plan, wanted(plan));
+    status
 }
 
 /// What was made.
@@ -425,7 +426,7 @@ fn import_hiding(
     };
     let statements = match statements_meant(rt.alloc(), plan, &configuration) {
         Ok(Some(statements)) => statements,
-        Ok(None) => return Ok(refuse_section(rt, plan)),
+        Ok(None) => return Ok(refuse_section(rt, plan, &configuration)),
         Err(fault) => return refuse_statements(rt, fault),
     };
     let Some(initial) = add_pairs(rt, plan, read.given, &mut configuration) else {
@@ -523,36 +524,18 @@ fn import_plan(rt: &HostRuntime, plan: &Plan<'_>) -> u8 {
     }
 }
 
-fn show_help(rt: &HostRuntime, words: &[String]) -> u8 {
-    match help_text(rt.alloc(), words) {
-        Ok(text) => match rt.print(text.as_str()) {
-            Ok(()) => status(&Fault::Help),
-            Err(_) => refuse_early(rt, &Fault::Write),
-        },
-        Err(_) => refuse_early(rt, &Fault::Memory),
-    }
-}
-
 fn import_words(rt: &HostRuntime, words: &[String]) -> u8 {
     match read_words(rt.alloc(), words) {
         Ok(plan) => import_plan(rt, &plan),
-        Err(Fault::Help) => show_help(rt, words),
+        Err(Fault::Help) => show_help(rt, help_text(rt.alloc(), words)),
         Err(fault) => refuse_words_of(rt, &fault, PROGRAM, help_text(rt.alloc(), words)),
     }
 }
 
-// The words of the command line. Words that are no UTF-8 are an error.
-fn words_of(rt: &HostRuntime) -> io::Result<Vec<String>> {
-    Ok(std::env::args(rt)?.collect(rt.alloc())?)
-}
-
 fn main(rt: HostRuntime) -> ExitCode {
-    let code = match words_of(&rt) {
+    let code = match command_words(&rt) {
         Ok(words) => import_words(&rt, words.as_slice()),
-        Err(error) if error.kind() == io::ErrorKind::OutOfMemory => {
-            refuse_early(&rt, &Fault::Memory)
-        }
-        Err(_) => refuse_early(&rt, &Fault::Usage),
+        Err(code) => code,
     };
     ExitCode::from(code)
 }

@@ -1,10 +1,11 @@
 -- What is shown of a condition whose values are hidden.
-use Rattle.std.specs.Prelude.{ℕ, ◌-◌, Bool, true, false, ◌≡◌, ◌&&◌, ◌||◌, ◌==◌, nat_eq, if◌then◌else◌, List, [], ◌∷◌, ◌++◌, codes, length, map, take}
-use Rattle.std.specs.Char.{is_ascii_digit, is_ascii_whitespace}
-use Rattle.std.specs.List.{after_first, before_first, list_all, list_any, slice_get, suffix_len}
+use Rattle.std.specs.Prelude.{ℕ, ◌-◌, Bool, true, false, ◌≡◌, ◌&&◌, ◌||◌, ◌==◌, nat_eq, if◌then◌else◌, List, [], ◌∷◌, ◌++◌, codes, length, map}
+use Rattle.std.specs.Char.{is_ascii_digit}
+use Rattle.std.specs.List.{after_first, before_first, list_all, list_any, slice_get}
 use Rattle.std.specs.Option.{is_some, option_map_or}
 use Rattle.std.specs.Str.{str_eq_ignore_ascii_case}
 use Rattle.avp_dict.specs.Names.{named}
+use Rattle.radpolicy_common.specs.SecretAttributes.{is_colon, without_blanks_behind}
 use Rattle.radpolicy_import_texts.specs.SecretNames.{Secrets}
 use Rattle.radpolicy_import_texts.specs.Words.{is_reference_octet}
 use Rattle.radpolicy_import_texts.specs.declared.names.TheConstants.{LISTS}
@@ -15,9 +16,6 @@ is_sign c = list_any (nat_eq c) (codes "()!=<>~&|,{}[]*+^")
 
 abbrev pub is_blank : ℕ → Bool
 is_blank c = c == 32 || c == 9
-
-abbrev pub is_colon : ℕ → Bool
-is_colon c = c == 58
 
 -- ---- words that name an attribute
 
@@ -56,9 +54,6 @@ is_reference (c ∷ cs) = c == 38 && list_all is_reference_octet cs
 -- what a sign ends in that compares or sets
 unfoldable pub is_relation : ℕ → Bool
 is_relation c = list_any (nat_eq c) (codes "=<>~*")
-
-abbrev pub without_blanks_behind : List ℕ → List ℕ
-without_blanks_behind text = take (length text - suffix_len is_ascii_whitespace text) text
 
 abbrev pub ends_in_relation : List ℕ → Bool
 ends_in_relation text = option_map_or is_relation (slice_get text (length text - 1)) false

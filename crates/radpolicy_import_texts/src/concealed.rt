@@ -2,7 +2,8 @@
 
 ghost use Rattle.std.specs.Prelude.{◌≡◌, OnOk, IfOk};
 ghost use Rattle.std.specs.List.{list_all};
-ghost use Rattle.radpolicy_import_texts.specs.Concealing.{HasNoValues, awaits_value, ends_in_relation, is_blank, is_reference, is_relation, is_sign, without_blanks_behind};
+ghost use Rattle.radpolicy_common.specs.SecretAttributes.{without_blanks_behind};
+ghost use Rattle.radpolicy_import_texts.specs.Concealing.{HasNoValues, awaits_value, ends_in_relation, is_blank, is_reference, is_relation, is_sign};
 ghost use Rattle.radpolicy_import_texts.specs.SecretNames.{Secrets};
 ghost use Rattle.radpolicy_import_texts.specs.Words.{is_reference_octet};
 

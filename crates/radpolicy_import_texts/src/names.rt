@@ -5,7 +5,8 @@ ghost use Rattle.std.specs.Char.{is_ascii_digit};
 ghost use Rattle.std.specs.List.{after_first, before_first, list_all, list_any, position};
 ghost use Rattle.std.specs.Str.{str_eq_ignore_ascii_case};
 ghost use Rattle.avp_dict.specs.Words.{same_name};
-ghost use Rattle.radpolicy_import_texts.specs.Concealing.{is_attribute, is_colon, is_list, is_tag, names_attribute, without_list, without_tag};
+ghost use Rattle.radpolicy_common.specs.SecretAttributes.{is_colon};
+ghost use Rattle.radpolicy_import_texts.specs.Concealing.{is_attribute, is_list, is_tag, names_attribute, without_list, without_tag};
 ghost use Rattle.radpolicy_import_texts.specs.SecretNames.{assigns_secret, is_copy, is_secret, names_secret};
 
 use crate::followers::followers;

@@ -4,9 +4,8 @@ ghost use Rattle.std.specs.Prelude.{IfErr};
 ghost use Rattle.radpolicy.specs.Faults.{IsWordFault};
 
 use crate::printing::Format;
-use clap::error::ErrorKind;
 use clap::{Arg, ArgAction, ArgMatches};
-use radpolicy::Fault;
+use radpolicy::{Fault, word_fault};
 use std::alloc::{AllocError, Global};
 use std::convert::AsStr;
 
@@ -20,6 +19,8 @@ const STRICT: &str = "strict";
 
 const HIDE: &str = "hide";
 
+const FOLDER: &str = "folder";
+
 const DICTIONARY: &str = "dictionary";
 
 /// What a command line asks for.
@@ -32,6 +33,8 @@ pub struct Plan<'a> {
     pub strict: bool,
     /// The names of attributes whose values are hidden, beside those that are secret as it is.
     pub hidden: Vec<&'a str>,
+    /// The folder of further dictionaries.
+    pub folder: Option<&'a str>,
     /// Dictionary files, the main one first.
     pub dictionaries: Vec<&'a str>,
 }
@@ -68,9 +71,18 @@ fn hide_option<'a>(alloc: Global) -> Arg<'a> {
     .long(HIDE)
 }
 
+fn folder_option<'a>(alloc: Global) -> Arg<'a> {
+    Arg::new(alloc, FOLDER)
+        .short('D')
+        .value_name("FOLDER")
+        .action(ArgAction::Set)
+        .help(
+            "The folder of the dictionaries [default: $RADPOLICY_DICTIONARIES, /usr/share/freeradius]",
+        )
+}
+
 fn dictionary_files<'a>(alloc: Global) -> Arg<'a> {
     Arg::new(alloc, DICTIONARY)
-        .required(true)
         .value_name("DICTIONARY")
         .num_args(1..)
         .action(ArgAction::Append)
@@ -94,18 +106,8 @@ fn program<'a>(alloc: Global) -> Result<clap::Command<'a>, AllocError> {
         .arg(format_option(alloc))?
         .arg(strict_option(alloc))?
         .arg(hide_option(alloc))?
+        .arg(folder_option(alloc))?
         .arg(dictionary_files(alloc))
-}
-
-// The fault of a parse that failed.
-fn fault_of(error: &clap::Error) -> Fault
-    ensures { IsWordFault result }
-{
-    match error.kind() {
-        ErrorKind::DisplayHelp => Fault::Help,
-        ErrorKind::OutOfMemory => Fault::Memory,
-        _ => Fault::Usage,
-    }
 }
 
 fn all_of<'a>(
@@ -140,6 +142,7 @@ fn plan_of<'a>(alloc: Global, found: &ArgMatches<'a>) -> Result<Plan<'a>, Fault>
         format,
         strict: found.get_flag(STRICT),
         hidden: all_of(alloc, found, HIDE)?,
+        folder: found.get_str(FOLDER),
         dictionaries: all_of(alloc, found, DICTIONARY)?,
     })
 }
@@ -155,7 +158,7 @@ pub fn read_words<'a, S: AsStr>(alloc: Global, words: &'a [S]) -> Result<Plan<'a
 {
     let matches = program(alloc)?
         .try_get_matches_from(words)
-        .map_err(|error| fault_of(&error))?;
+        .map_err(|error| word_fault(&error))?;
     plan_of(alloc, &matches)
 }
 

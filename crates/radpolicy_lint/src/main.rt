@@ -11,11 +11,13 @@ ghost use Rattle.avp_dict.specs.Lines.{HasDistinctNames};
 use crate::command_line::{Plan, help_text, read_words};
 use crate::linting::{Found, Linter, Reading};
 use avp_dict::{Dictionary, FileSet};
-use radpolicy::{Fault, status};
-use radpolicy_common::{Unread, named_attributes, read_dictionary_set, read_file, refuse_early};
+use radpolicy::Fault;
+use radpolicy_common::{
+    Unread, command_words, dictionaries_meant, lent_paths, named_attributes, read_dictionary_set,
+    read_file, refuse_early, show_help,
+};
 use radpolicy_help::{refuse_name, refuse_unread_explained, refuse_words_of};
 use std::alloc::AllocError;
-use std::io;
 use std::process::ExitCode;
 
 // Adds what is found in a policy's file.
@@ -115,36 +117,31 @@ fn lint_plan(rt: &HostRuntime, plan: &Plan<'_>) -> u8 {
     }
 }
 
-fn show_help(rt: &HostRuntime, words: &[String]) -> u8 {
-    match help_text(rt.alloc(), words) {
-        Ok(text) => match rt.print(text.as_str()) {
-            Ok(()) => status(&Fault::Help),
-            Err(_) => refuse_early(rt, &Fault::Write),
-        },
-        Err(_) => refuse_early(rt, &Fault::Memory),
-    }
+// What is found by a plan, by the dictionaries that it means.
+fn lint_by_meant(rt: &HostRuntime, plan: Plan<'_>) -> u8 {
+    let Ok(paths) = dictionaries_meant(rt, &plan.dictionaries, plan.folder) else {
+        return refuse_early(rt, &Fault::Memory);
+    };
+    let Ok(lent) = lent_paths(rt.alloc(), &paths) else {
+        return refuse_early(rt, &Fault::Memory);
+    };
+    let mut meant = plan;
+    meant.dictionaries = lent;
+    lint_plan(rt, &meant)
 }
 
 fn lint_words(rt: &HostRuntime, words: &[String]) -> u8 {
     match read_words(rt.alloc(), words) {
-        Ok(plan) => lint_plan(rt, &plan),
-        Err(Fault::Help) => show_help(rt, words),
+        Ok(plan) => lint_by_meant(rt, plan),
+        Err(Fault::Help) => show_help(rt, help_text(rt.alloc(), words)),
         Err(fault) => refuse_words_of(rt, &fault, "radpolicy-lint", help_text(rt.alloc(), words)),
     }
 }
 
-// The words of the command line. Words that are no UTF-8 are an error.
-fn words_of(rt: &HostRuntime) -> io::Result<Vec<String>> {
-    Ok(std::env::args(rt)?.collect(rt.alloc())?)
-}
-
 fn main(rt: HostRuntime) -> ExitCode {
-    let code = match words_of(&rt) {
+    let code = match command_words(&rt) {
         Ok(words) => lint_words(&rt, words.as_slice()),
-        Err(error) if error.kind() == io::ErrorKind::OutOfMemory => {
-            refuse_early(&rt, &Fault::Memory)
-        }
-        Err(_) => refuse_early(&rt, &Fault::Usage),
+        Err(code) => code,
     };
     ExitCode::from(code)
 }

@@ -4,9 +4,8 @@ ghost use Rattle.std.specs.Prelude.{IfErr};
 ghost use Rattle.radpolicy.specs.Faults.{IsWordFault};
 
 use avp_forms::offset_spelled;
-use clap::error::ErrorKind;
 use clap::{Arg, ArgAction, ArgMatches};
-use radpolicy::{Fault, Form};
+use radpolicy::{Fault, Form, word_fault};
 use radpolicy_common::SecretValues;
 use std::alloc::{AllocError, Global};
 use std::convert::AsStr;
@@ -39,6 +38,8 @@ const SHOW_SECRETS: &str = "show-secrets";
 
 const HIDE: &str = "hide";
 
+const FOLDER: &str = "folder";
+
 const DICTIONARY: &str = "dictionary";
 
 /// What a command line asks for.
@@ -63,6 +64,8 @@ pub struct Plan<'a> {
     pub secrets: SecretValues,
     /// The names of attributes that are hidden as well.
     pub hidden: Vec<&'a str>,
+    /// The folder of further dictionaries.
+    pub folder: Option<&'a str>,
     pub dictionaries: Vec<&'a str>,
 }
 
@@ -133,9 +136,18 @@ fn hide_option<'a>(alloc: Global) -> Arg<'a> {
         .help("Hides the values of an attribute too; may be given more than once")
 }
 
+fn folder_option<'a>(alloc: Global) -> Arg<'a> {
+    Arg::new(alloc, FOLDER)
+        .short('D')
+        .value_name("FOLDER")
+        .action(ArgAction::Set)
+        .help(
+            "The folder of the dictionaries [default: $RADPOLICY_DICTIONARIES, /usr/share/freeradius]",
+        )
+}
+
 fn dictionary_files<'a>(alloc: Global) -> Arg<'a> {
     Arg::new(alloc, DICTIONARY)
-        .required(true)
         .value_name("DICTIONARY")
         .num_args(1..)
         .action(ArgAction::Append)
@@ -173,18 +185,8 @@ fn program<'a>(alloc: Global) -> Result<clap::Command<'a>, AllocError> {
         ))?
         .arg(flag(alloc, SHOW_SECRETS, "Shows passwords and keys"))?
         .arg(hide_option(alloc))?
+        .arg(folder_option(alloc))?
         .arg(dictionary_files(alloc))
-}
-
-// The fault of a parse that failed.
-fn fault_of(error: &clap::Error) -> Fault
-    ensures { IsWordFault result }
-{
-    match error.kind() {
-        ErrorKind::DisplayHelp => Fault::Help,
-        ErrorKind::OutOfMemory => Fault::Memory,
-        _ => Fault::Usage,
-    }
 }
 
 // How the request is given. A packet needs a secret, and has its own Identifier and authenticator; lines of an
@@ -246,8 +248,13 @@ fn shown_secrets(found: &ArgMatches<'_>) -> SecretValues {
     }
 }
 
-fn hidden_names<'a>(alloc: Global, found: &ArgMatches<'a>) -> Result<Vec<&'a str>, AllocError> {
-    match found.get_strs(HIDE) {
+// The words that an option gives.
+fn names_of<'a>(
+    alloc: Global,
+    found: &ArgMatches<'a>,
+    option: &str,
+) -> Result<Vec<&'a str>, AllocError> {
+    match found.get_strs(option) {
         Some(names) => Vec::from_slice(alloc, names),
         None => Ok(Vec::new(alloc)),
     }
@@ -256,7 +263,6 @@ fn hidden_names<'a>(alloc: Global, found: &ArgMatches<'a>) -> Result<Vec<&'a str
 fn plan_of<'a>(alloc: Global, found: &ArgMatches<'a>) -> Result<Plan<'a>, Fault>
     ensures { IfErr result IsWordFault }
 {
-    let files = found.get_strs(DICTIONARY).ok_or(Fault::Usage)?;
     Ok(Plan {
         form: form_of(found)?,
         identifier: identifier_of(found)?,
@@ -270,8 +276,9 @@ fn plan_of<'a>(alloc: Global, found: &ArgMatches<'a>) -> Result<Plan<'a>, Fault>
         output: found.get_str(OUTPUT),
         is_forced: found.get_flag(FORCE),
         secrets: shown_secrets(found),
-        hidden: hidden_names(alloc, found)?,
-        dictionaries: Vec::from_slice(alloc, files)?,
+        hidden: names_of(alloc, found, HIDE)?,
+        folder: found.get_str(FOLDER),
+        dictionaries: names_of(alloc, found, DICTIONARY)?,
     })
 }
 
@@ -296,7 +303,7 @@ pub fn read_words<'a, S: AsStr>(alloc: Global, words: &'a [S]) -> Result<Plan<'a
 {
     let matches = program(alloc)?
         .try_get_matches_from(words)
-        .map_err(|error| fault_of(&error))?;
+        .map_err(|error| word_fault(&error))?;
     plan_of(alloc, &matches)
 }
 

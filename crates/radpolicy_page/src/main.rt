@@ -19,13 +19,13 @@ use avp_lists::{AttrId, Octets};
 use hex::FromHexError;
 use radpolicy::{Fault, Form, PreparedPolicy, RequestHead, RequestKind, Secret, Start, status};
 use radpolicy_common::{
-    Hiding, Unread, named_attributes, read_dictionary_set, read_file, read_optional,
-    read_standard_input, refuse_early, refuse_outputs,
+    Hiding, Unread, command_words, dictionaries_meant, file_kind, lent_paths, named_attributes,
+    read_dictionary_set, read_file, read_optional, read_standard_input, refuse_early, refuse_kind,
+    refuse_outputs, show_help,
 };
-use radpolicy_help::{refuse_name, refuse_unread_explained, refuse_words_of};
+use radpolicy_help::{STANDARD_INPUT, refuse_name, refuse_unread_explained, refuse_words_of};
 use radpolicy_page_data::{Page, PageFault, page_of};
 use std::alloc::{AllocError, Global};
-use std::io;
 use std::process::ExitCode;
 
 // What the files of a plan hold.
@@ -227,42 +227,40 @@ fn show_plan(rt: &HostRuntime, plan: &Plan<'_>) -> u8 {
         Ok(files) => files,
         Err(unread) => return refuse_unread_explained(rt, unread),
     };
+    if let Some(kind) = file_kind(files.request.as_slice()) {
+        return refuse_kind(rt, PROGRAM, plan.request.unwrap_or(STANDARD_INPUT), kind);
+    }
     match show_files(rt, plan, &files) {
         Ok(status) => status,
         Err(fault) => refuse_files(rt, plan, &files, &fault),
     }
 }
 
-fn show_help(rt: &HostRuntime, words: &[String]) -> u8 {
-    match help_text(rt.alloc(), words) {
-        Ok(text) => match rt.print(text.as_str()) {
-            Ok(()) => status(&Fault::Help),
-            Err(_) => refuse_early(rt, &Fault::Write),
-        },
-        Err(_) => refuse_early(rt, &Fault::Memory),
-    }
+// Shows the page of a plan, by the dictionaries that it means.
+fn show_by_meant(rt: &HostRuntime, plan: Plan<'_>) -> u8 {
+    let Ok(paths) = dictionaries_meant(rt, &plan.dictionaries, plan.folder) else {
+        return refuse_early(rt, &Fault::Memory);
+    };
+    let Ok(lent) = lent_paths(rt.alloc(), &paths) else {
+        return refuse_early(rt, &Fault::Memory);
+    };
+    let mut meant = plan;
+    meant.dictionaries = lent;
+    show_plan(rt, &meant)
 }
 
 fn obey_words(rt: &HostRuntime, words: &[String]) -> u8 {
     match read_words(rt.alloc(), words) {
-        Ok(plan) => show_plan(rt, &plan),
-        Err(Fault::Help) => show_help(rt, words),
+        Ok(plan) => show_by_meant(rt, plan),
+        Err(Fault::Help) => show_help(rt, help_text(rt.alloc(), words)),
         Err(fault) => refuse_words_of(rt, &fault, PROGRAM, help_text(rt.alloc(), words)),
     }
 }
 
-// The words of the command line. Words that are no UTF-8 are an error.
-fn words_of(rt: &HostRuntime) -> io::Result<Vec<String>> {
-    Ok(std::env::args(rt)?.collect(rt.alloc())?)
-}
-
 fn main(rt: HostRuntime) -> ExitCode {
-    let code = match words_of(&rt) {
+    let code = match command_words(&rt) {
         Ok(words) => obey_words(&rt, words.as_slice()),
-        Err(error) if error.kind() == io::ErrorKind::OutOfMemory => {
-            refuse_early(&rt, &Fault::Memory)
-        }
-        Err(_) => refuse_early(&rt, &Fault::Usage),
+        Err(code) => code,
     };
     ExitCode::from(code)
 }

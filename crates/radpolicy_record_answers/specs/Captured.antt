@@ -14,6 +14,7 @@ use Rattle.avp_packet.specs.Packets.{access_accept, access_challenge, access_rej
 use Rattle.avp_packet.specs.declared.faults.PacketFault.{PacketFault}
 use Rattle.avp_packet.specs.declared.packets.Packet.{Packet}
 use Rattle.radpolicy.specs.RunOutcomes.{RunOutcome}
+use Rattle.radpolicy.specs.Scripts.{line_words}
 use Rattle.radpolicy.specs.Starts.{Prepared}
 use Rattle.radpolicy.specs.declared.faults.Fault.{Fault}
 use Rattle.radpolicy.specs.declared.faults.Fault.TheVariants as fault
@@ -23,7 +24,7 @@ use Rattle.radpolicy_common.specs.Secrets.{Redaction}
 use Rattle.radpolicy_record_answers.specs.Answers.{fault_shown, refusal_shown, text_fault_shown}
 use Rattle.radpolicy_record_answers.specs.Comparisons.{AreSame, compared, same_lists}
 use Rattle.radpolicy_record_answers.specs.Differences.{added_line, list_change, named_change, pair_line, removed_line}
-use Rattle.radpolicy_record_answers.specs.Records.{is_packet_word, line_words, octets_decoded, request_taken}
+use Rattle.radpolicy_record_answers.specs.Records.{is_packet_word, octets_decoded, request_taken}
 use Rattle.radpolicy_record_answers.specs.Requests.{answered_from}
 use Rattle.radpolicy_record_answers.specs.UnmadeReplies.{unmade_reply}
 use Rattle.radpolicy_record_answers.specs.declared.answers.RecordFault.{RecordFault}

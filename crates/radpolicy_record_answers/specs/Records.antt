@@ -1,13 +1,14 @@
 -- What the line of a record says: a word that names it, the request's packet, and the reply that was sent.
-use Rattle.std.specs.Prelude.{ℕ, ◌==◌, Bool, true, false, not, ◌&&◌, ◌||◌, nat_eq, nat_le, nat_lt, if◌then◌else◌, List, [], ◌∷◌, ◌++◌, codes, decimal, drop, filter, find, length, slice_index, Option, None, Some, Result, Ok, Err}
-use Rattle.std.specs.List.{count_by, flat_map, list_all, list_any, slice_split}
+use Rattle.std.specs.Prelude.{ℕ, ◌==◌, Bool, true, false, not, ◌&&◌, ◌||◌, nat_eq, nat_le, nat_lt, if◌then◌else◌, List, [], ◌∷◌, ◌++◌, codes, decimal, drop, find, length, slice_index, Option, None, Some, Result, Ok, Err}
+use Rattle.std.specs.List.{count_by, flat_map, list_all, list_any}
 use Rattle.std.specs.Option.{option_and, option_and_then, option_map_or}
 use Rattle.std.specs.declared.net.ip_addr.IpAddr.{IpAddr}
 use Rattle.hex.specs.Hex.{decode_of, is_hex_digit}
 use Rattle.hex.specs.declared.error.FromHexError.{FromHexError}
-use Rattle.avp_dict.specs.Ascii.{colon, full_stop}
+use Rattle.avp_dict.specs.Ascii.{full_stop}
 use Rattle.avp_dict.specs.Quotes.{octal_escape}
-use Rattle.avp_dict.specs.Words.{is_blank, is_word}
+use Rattle.avp_dict.specs.Spellings.{is_colon}
+use Rattle.radpolicy.specs.Scripts.{line_words}
 use Rattle.radpolicy.specs.declared.faults.Fault.{Fault}
 use Rattle.radpolicy.specs.declared.faults.Fault.TheVariants as fault
 use Rattle.radpolicy_clients.specs.Addresses.{address_of}
@@ -18,9 +19,6 @@ use Rattle.radpolicy_record_answers.specs.declared.records.TheConstants.{MAX_LIN
 use Rattle.radpolicy_record_answers.specs.declared.requests.RecordRequest.{RecordRequest}
 
 -- ---- words
-
-abbrev pub line_words : List ℕ → List (List ℕ)
-line_words line = filter is_word (slice_split is_blank line)
 
 -- 40 hexadecimal digits or more, as a packet has 20 octets at least (RFC 2865, section 3)
 unfoldable pub is_packet_word : List ℕ → Bool
@@ -35,9 +33,6 @@ words_before (word ∷ words) = if is_packet_word word then [] else word ∷ wor
 
 abbrev pub is_full_stop : ℕ → Bool
 is_full_stop o = o == full_stop
-
-abbrev pub is_colon : ℕ → Bool
-is_colon o = o == colon
 
 abbrev pub is_address_octet : ℕ → Bool
 is_address_octet o = is_hex_digit o || is_full_stop o || is_colon o

@@ -7,8 +7,9 @@ ghost use Rattle.hex.specs.Hex.{decode_of, is_hex_digit};
 ghost use Rattle.avp_dict.specs.Quotes.{octal_escape};
 ghost use Rattle.avp_dict.specs.internal.Views.{views};
 ghost use Rattle.radpolicy.specs.Faults.{MemoryOr};
+ghost use Rattle.radpolicy.specs.Scripts.{line_words};
 ghost use Rattle.radpolicy_record_answers.specs.Captured.{reply_word, words_after};
-ghost use Rattle.radpolicy_record_answers.specs.Records.{begins_source, has_double_colon, identifier_shown, is_address, is_address_octet, is_name, is_no_name_octet, is_packet_word, is_source, line_identifier, line_words, name_word, octet_shown, octets_decoded, or_number, request_octets, source_of, source_text, word_shown, words_before};
+ghost use Rattle.radpolicy_record_answers.specs.Records.{begins_source, has_double_colon, identifier_shown, is_address, is_address_octet, is_name, is_no_name_octet, is_packet_word, is_source, line_identifier, name_word, octet_shown, octets_decoded, or_number, request_octets, source_of, source_text, word_shown, words_before};
 
 use avp_dict::words_between_blanks;
 use hex::FromHexError;

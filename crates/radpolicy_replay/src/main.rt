@@ -5,9 +5,11 @@ mod client_help;
 mod command_line;
 mod counted_lines;
 mod counters;
+mod equal_differences;
 mod expected;
 mod json_summaries;
 mod log_watches;
+mod options;
 mod places;
 mod secrets;
 mod streams;
@@ -27,7 +29,7 @@ use crate::counters::{CountedLines, CountedRecords, Counter};
 use crate::expected::{DIFFERENT, expected_status, open_expected};
 use crate::places::{FileLine, refuse_in, refuse_unread};
 use crate::secrets::{HeldSecrets, held_secrets, read_secret};
-use crate::streams::{flush, refuse_replay, write_text};
+use crate::streams::{Early, flush, refuse_input, write_text};
 use crate::summaries::{Ended, show_summary};
 use crate::to_hex::write_packets;
 use crate::traffic::{Traffic, read_beginning};
@@ -35,14 +37,14 @@ use avp_dict::{Dictionary, FileSet};
 use avp_lists::{AttrId, Octets};
 use radpolicy::{Fault, PreparedPolicy, status};
 use radpolicy_common::{
-    Hiding, Redaction, Unread, named_attributes, read_dictionary_set, read_file, refuse_early,
+    Hiding, Redaction, Unread, command_words, dictionaries_meant, lent_paths, named_attributes,
+    read_dictionary_set, read_file, refuse_early, show_help,
 };
 use radpolicy_help::{Source, Sources, refuse_name, refuse_words_of};
-use radpolicy_record_answers::{Against, Comparison};
+use radpolicy_record_answers::{Against, Comparison, Shown};
 use radpolicy_replay_records::{Layout, RecordReader, Records, Replay, ReplayFault, Summary};
 use std::alloc::{AllocError, Global};
 use std::fs::File;
-use std::io;
 use std::io::{BufReader, BufWriter, Read, Write};
 use std::process::ExitCode;
 use text_comparison::Watched;
@@ -149,15 +151,13 @@ fn run_input<W: Write>(
     plan: &Plan<'_>,
     replay: &Replay<'_>,
     out: &mut W,
-) -> Result<Ended, ReplayFault> {
+) -> Result<Ended, Early> {
     let counter = Counter::new(rt);
     let mut input = rt.stdin();
-    if let Some(traffic) = plan.traffic {
-        return run_traffic(rt, plan, replay, traffic, counter, input, out);
-    }
-    let beginning = read_beginning(rt.alloc(), &mut input)?;
+    let beginning = read_beginning(rt.alloc(), &mut input, plan.traffic)?;
     let whole = beginning.octets.as_slice().chain(input);
-    run_traffic(rt, plan, replay, beginning.traffic, counter, whole, out)
+    let ended = run_traffic(rt, plan, replay, beginning.traffic, counter, whole, out)?;
+    Ok(ended)
 }
 
 // The last line of tests, which says how many there were.
@@ -173,7 +173,7 @@ fn run_laid_out<W: Write>(
     plan: &Plan<'_>,
     replay: &Replay<'_>,
     out: &mut W,
-) -> Result<Ended, ReplayFault> {
+) -> Result<Ended, Early> {
     if matches!(plan.layout, Layout::Plain | Layout::Json) {
         return run_input(rt, plan, replay, out);
     }
@@ -195,7 +195,7 @@ fn replay_to<W: Write>(
             Ok(()) => status_of(plan.strict, &ended.summary),
             Err(_) => refuse_early(rt, &Fault::Memory),
         },
-        Err(fault) => refuse_replay(rt, fault),
+        Err(early) => refuse_input(rt, early),
     }
 }
 
@@ -268,12 +268,13 @@ fn comparison_of<'a>(
     })
 }
 
-// What a plan says beside its policies: the secrets, the attributes that are left out where replies are compared, and
-// those that are hidden besides.
+// What a plan says beside its policies: the secrets, the attributes that are left out where replies are compared, those
+// that are hidden besides, and those that are shown of requests.
 struct Settings<'a> {
     secrets: HeldSecrets<'a>,
     ignored: Vec<AttrId>,
     hidden: Vec<AttrId>,
+    shown: Vec<AttrId>,
 }
 
 // As a function, so that where settings are dropped a proof sees one step.
@@ -283,6 +284,7 @@ impl<'a> Drop for Settings<'a> {
             secrets: _,
             ignored: _,
             hidden: _,
+            shown: _,
         } = self;
     }
 }
@@ -304,11 +306,16 @@ fn settings_of<'a>(
         Ok(ignored) => ignored,
         Err(name) => return Ok(Err(refuse_name(rt, dictionary, name))),
     };
-    match named_attributes(rt.alloc(), dictionary, &plan.hidden)? {
-        Ok(hidden) => Ok(Ok(Settings {
+    let hidden = match named_attributes(rt.alloc(), dictionary, &plan.hidden)? {
+        Ok(hidden) => hidden,
+        Err(name) => return Ok(Err(refuse_name(rt, dictionary, name))),
+    };
+    match named_attributes(rt.alloc(), dictionary, &plan.shown)? {
+        Ok(shown) => Ok(Ok(Settings {
             secrets,
             ignored,
             hidden,
+            shown,
         })),
         Err(name) => Ok(Err(refuse_name(rt, dictionary, name))),
     }
@@ -390,6 +397,12 @@ fn replay_by(
         shared: settings.secrets.shared(),
         comparison: comparison_of(plan, &against, &settings.ignored),
         redaction: &redaction,
+        shown: Shown {
+            ids: &settings.shown,
+            dictionary: &dictionary,
+            redaction: &redaction,
+        },
+        only: plan.only,
         layout: plan.layout,
     };
     let texts = PolicyTexts {
@@ -479,37 +492,32 @@ fn replay_plan(rt: &HostRuntime, plan: &Plan<'_>) -> u8 {
     }
 }
 
-fn show_help(rt: &HostRuntime, words: &[String]) -> u8 {
-    match help_text(rt.alloc(), words) {
-        Ok(text) => match rt.print(text.as_str()) {
-            Ok(()) => status(&Fault::Help),
-            Err(_) => refuse_early(rt, &Fault::Write),
-        },
-        Err(_) => refuse_early(rt, &Fault::Memory),
-    }
+// The replay of a plan, by the dictionaries that it means.
+fn replay_by_meant(rt: &HostRuntime, plan: Plan<'_>) -> u8 {
+    let Ok(paths) = dictionaries_meant(rt, &plan.dictionaries, plan.folder) else {
+        return refuse_early(rt, &Fault::Memory);
+    };
+    let Ok(lent) = lent_paths(rt.alloc(), &paths) else {
+        return refuse_early(rt, &Fault::Memory);
+    };
+    let mut meant = plan;
+    meant.dictionaries = lent;
+    replay_plan(rt, &meant)
 }
 
 fn replay_words(rt: &HostRuntime, words: &[String]) -> u8 {
     match read_words(rt.alloc(), words) {
-        Ok(Asked::Replay(plan)) => replay_plan(rt, &plan),
-        Ok(Asked::Packets(plan)) => write_packets(rt, &plan),
-        Err(Fault::Help) => show_help(rt, words),
+        Ok(Asked::Replay(plan)) => replay_by_meant(rt, plan),
+        Ok(Asked::Packets(plan)) => write_packets(rt, plan),
+        Err(Fault::Help) => show_help(rt, help_text(rt.alloc(), words)),
         Err(fault) => refuse_words_of(rt, &fault, "radpolicy-replay", help_text(rt.alloc(), words)),
     }
 }
 
-// The words of the command line. Words that are no UTF-8 are an error.
-fn words_of(rt: &HostRuntime) -> io::Result<Vec<String>> {
-    Ok(std::env::args(rt)?.collect(rt.alloc())?)
-}
-
 fn main(rt: HostRuntime) -> ExitCode {
-    let code = match words_of(&rt) {
+    let code = match command_words(&rt) {
         Ok(words) => replay_words(&rt, words.as_slice()),
-        Err(error) if error.kind() == io::ErrorKind::OutOfMemory => {
-            refuse_early(&rt, &Fault::Memory)
-        }
-        Err(_) => refuse_early(&rt, &Fault::Usage),
+        Err(code) => code,
     };
     ExitCode::from(code)
 }

@@ -1,16 +1,13 @@
 -- The records of traffic: its lines that are not blank.
-use Rattle.std.specs.Prelude.{ℕ, ◌+◌, ◌==◌, Bool, ◌||◌, not, List, [], ◌∷◌, filter, map, take}
+use Rattle.std.specs.Prelude.{ℕ, ◌+◌, Bool, not, List, [], ◌∷◌, filter, map, take}
 use Rattle.std.specs.List.{list_all, slice_split}
-use Rattle.avp_dict.specs.Ascii.{carriage_return, space, tab}
 use Rattle.avp_dict.specs.Lines.{is_line_end}
+use Rattle.avp_dict.specs.Words.{is_blank}
 use Rattle.radpolicy_record_answers.specs.declared.records.TheConstants.{MAX_LINE_OCTETS}
 
 -- a line, or as much of it as shows that it is too long
 abbrev pub cut : List ℕ → List ℕ
 cut line = take (MAX_LINE_OCTETS + 1) line
-
-abbrev pub is_blank : ℕ → Bool
-is_blank o = o == space || o == tab || o == carriage_return
 
 -- it has more than blanks
 abbrev pub is_record : List ℕ → Bool

@@ -3,7 +3,8 @@
 ghost use Rattle.std.specs.Prelude.{◌≡◌, ◌<◌, ◌≤◌, ◌+◌, ◌++◌, ◌∷◌, [], IfNone, IfSome, OnOk, length};
 ghost use Rattle.std.specs.List.{list_all, position, slice_split};
 ghost use Rattle.avp_dict.specs.Lines.{is_line_end};
-ghost use Rattle.radpolicy_replay_records.specs.Lines.{cut, is_blank, is_record};
+ghost use Rattle.avp_dict.specs.Words.{is_blank};
+ghost use Rattle.radpolicy_replay_records.specs.Lines.{cut, is_record};
 
 use radpolicy_record_answers::MAX_LINE_OCTETS;
 use std::alloc::AllocError;

@@ -4,9 +4,8 @@ ghost use Rattle.std.specs.Prelude.{IfErr};
 ghost use Rattle.radpolicy.specs.Faults.{IsWordFault};
 
 use avp_forms::offset_spelled;
-use clap::error::ErrorKind;
 use clap::{Arg, ArgAction, ArgMatches};
-use radpolicy::{Fault, Form};
+use radpolicy::{Fault, Form, word_fault};
 use radpolicy_common::SecretValues;
 use std::alloc::{AllocError, Global};
 use std::convert::AsStr;
@@ -35,6 +34,8 @@ const SHOW_SECRETS: &str = "show-secrets";
 
 const HIDE: &str = "hide";
 
+const FOLDER: &str = "folder";
+
 const DICTIONARY: &str = "dictionary";
 
 /// What a command line asks for.
@@ -43,8 +44,8 @@ pub struct Plan<'a> {
     pub form: Form,
     /// The request's file; standard input where there is none.
     pub request: Option<&'a str>,
-    /// The number of the record that is the request, from 1 on, where the file is a log or has several requests.
-    pub record: Option<usize>,
+    /// The name of the record that is the request, where the file has several.
+    pub record: Option<&'a str>,
     pub policy: &'a str,
     pub secret: Option<&'a str>,
     pub reply: Option<&'a str>,
@@ -56,6 +57,8 @@ pub struct Plan<'a> {
     pub secrets: SecretValues,
     /// The names of attributes that are hidden as well.
     pub hidden: Vec<&'a str>,
+    /// The folder of further dictionaries.
+    pub folder: Option<&'a str>,
     pub dictionaries: Vec<&'a str>,
 }
 
@@ -79,8 +82,8 @@ fn request_option<'a>(alloc: Global) -> Arg<'a> {
 }
 
 fn record_option<'a>(alloc: Global) -> Arg<'a> {
-    let help = "The request is the N-th of a log, a detail file or a file of several requests";
-    file_option(alloc, RECORD, "N", help).long(RECORD)
+    let help = "The request is the record that radpolicy-replay calls so, as (4) of a server's log";
+    file_option(alloc, RECORD, "NAME", help).long(RECORD)
 }
 
 fn policy_option<'a>(alloc: Global) -> Arg<'a> {
@@ -120,9 +123,18 @@ fn hide_option<'a>(alloc: Global) -> Arg<'a> {
         .help("Hides the values of an attribute too; may be given more than once")
 }
 
+fn folder_option<'a>(alloc: Global) -> Arg<'a> {
+    Arg::new(alloc, FOLDER)
+        .short('D')
+        .value_name("FOLDER")
+        .action(ArgAction::Set)
+        .help(
+            "The folder of the dictionaries [default: $RADPOLICY_DICTIONARIES, /usr/share/freeradius]",
+        )
+}
+
 fn dictionary_files<'a>(alloc: Global) -> Arg<'a> {
     Arg::new(alloc, DICTIONARY)
-        .required(true)
         .value_name("DICTIONARY")
         .num_args(1..)
         .action(ArgAction::Append)
@@ -154,18 +166,8 @@ fn program<'a>(alloc: Global) -> Result<clap::Command<'a>, AllocError> {
         .arg(script_option(alloc))?
         .arg(flag(alloc, SHOW_SECRETS, "Shows passwords and keys"))?
         .arg(hide_option(alloc))?
+        .arg(folder_option(alloc))?
         .arg(dictionary_files(alloc))
-}
-
-// The fault of a parse that failed.
-fn fault_of(error: &clap::Error) -> Fault
-    ensures { IsWordFault result }
-{
-    match error.kind() {
-        ErrorKind::DisplayHelp => Fault::Help,
-        ErrorKind::OutOfMemory => Fault::Memory,
-        _ => Fault::Usage,
-    }
 }
 
 // How the request is given. A packet needs a secret, and lines take none.
@@ -181,16 +183,13 @@ fn form_of(found: &ArgMatches<'_>) -> Result<Form, Fault>
     }
 }
 
-// The number of the record that is the request. What the request is, and how it is given, is in the record.
-fn record_of(found: &ArgMatches<'_>, form: Form) -> Result<Option<usize>, Fault>
+// The name of the record that is the request, which says of itself whether it is an Accounting-Request.
+fn record_of<'a>(found: &ArgMatches<'a>, form: Form) -> Result<Option<&'a str>, Fault>
     ensures { IfErr result IsWordFault }
 {
-    let Some(word) = found.get_str(RECORD) else {
-        return Ok(None);
-    };
-    match word.parse::<usize>() {
-        Ok(number) if number > 0 && form == Form::Access => Ok(Some(number)),
-        _ => Err(Fault::OptionValue),
+    match found.get_str(RECORD) {
+        Some(_) if form == Form::Accounting => Err(Fault::OptionValue),
+        name => Ok(name),
     }
 }
 
@@ -214,8 +213,13 @@ fn shown_secrets(found: &ArgMatches<'_>) -> SecretValues {
     }
 }
 
-fn hidden_names<'a>(alloc: Global, found: &ArgMatches<'a>) -> Result<Vec<&'a str>, AllocError> {
-    match found.get_strs(HIDE) {
+// The words that an option gives.
+fn names_of<'a>(
+    alloc: Global,
+    found: &ArgMatches<'a>,
+    option: &str,
+) -> Result<Vec<&'a str>, AllocError> {
+    match found.get_strs(option) {
         Some(names) => Vec::from_slice(alloc, names),
         None => Ok(Vec::new(alloc)),
     }
@@ -224,7 +228,6 @@ fn hidden_names<'a>(alloc: Global, found: &ArgMatches<'a>) -> Result<Vec<&'a str
 fn plan_of<'a>(alloc: Global, found: &ArgMatches<'a>) -> Result<Plan<'a>, Fault>
     ensures { IfErr result IsWordFault }
 {
-    let files = found.get_strs(DICTIONARY).ok_or(Fault::Usage)?;
     let (request, script) = (found.get_str(REQUEST), found.get_str(SCRIPT));
     // Standard input has either the request or the commands.
     if request.is_none() && script.is_none() {
@@ -242,8 +245,9 @@ fn plan_of<'a>(alloc: Global, found: &ArgMatches<'a>) -> Result<Plan<'a>, Fault>
         zone: zone_of(found)?,
         script,
         secrets: shown_secrets(found),
-        hidden: hidden_names(alloc, found)?,
-        dictionaries: Vec::from_slice(alloc, files)?,
+        hidden: names_of(alloc, found, HIDE)?,
+        folder: found.get_str(FOLDER),
+        dictionaries: names_of(alloc, found, DICTIONARY)?,
     })
 }
 
@@ -256,7 +260,7 @@ fn refusal_of(found: &ArgMatches<'_>) -> &'static str {
         Ok(form) if record_of(found, form).is_ok() => {
             "--zone takes what a zone is ahead of UTC, as +01:00\n"
         }
-        Ok(_) => "--record takes a number from 1, and goes without --hex and --acct\n",
+        Ok(_) => "--record goes without --acct\n",
         Err(_) => {
             "--hex needs -S and the file that has the client's secret, and -S needs --hex; --acct goes without them\n"
         }
@@ -269,7 +273,7 @@ pub fn read_words<'a, S: AsStr>(alloc: Global, words: &'a [S]) -> Result<Plan<'a
 {
     let matches = program(alloc)?
         .try_get_matches_from(words)
-        .map_err(|error| fault_of(&error))?;
+        .map_err(|error| word_fault(&error))?;
     plan_of(alloc, &matches)
 }
 

@@ -11,7 +11,7 @@ returns-in-Err-clause-help g c = λ is.
     let words = map g.S.AsStr.text c.args.words.now in
     let app = c.in_ok-program.ensures in
     let kinds = subst (λ (app : App). HasKind (fault_of app words) c.in-Err.error) app (c.in-Err.ensures.kinds (ap is_simple_and_free app ∙ program_is_free)) in
-    let help = c.fault_of.ensures.help is in
+    let help = c.word_fault.ensures.help is in
     elim kinds [
       | inl memory ↦ let bad = sym memory ∙ help in cc
       | inr among ↦ subst (λ k. IsAmong k (fault_of program words)) help among
@@ -23,7 +23,7 @@ returns-in-Err-clause-usage g c = λ is command rows names.
     let app = c.in_ok-program.ensures in
     let kinds = subst (λ (app : App). HasKind (fault_of app words) c.in-Err.error) app (c.in-Err.ensures.kinds (ap is_simple_and_free app ∙ program_is_free)) in
     elim (subst (λ those. HasKind those c.in-Err.error) names.right kinds) [
-      | inl memory ↦ c.fault_of.ensures.usage is memory
+      | inl memory ↦ c.word_fault.ensures.usage is memory
       | inr none ↦ none
     ]
 
@@ -73,9 +73,9 @@ returns-in-Err-clause-no_help g c = λ is asked.
     let app = c.in_ok-program.ensures in
     let kinds = subst (λ (app : App). HasKind (fault_of app words) c.in-Err.error) app (c.in-Err.ensures.kinds (ap is_simple_and_free app ∙ program_is_free)) in
     elim (subst (λ those. HasKind those c.in-Err.error) asked kinds) [
-      | inl memory ↦ c.fault_of.ensures.usage is memory
+      | inl memory ↦ c.word_fault.ensures.usage is memory
       | inr one ↦ elim one [
-        | inl help ↦ c.fault_of.ensures.no_help is help
+        | inl help ↦ c.word_fault.ensures.no_help is help
         | inr none ↦ none
       ]
     ]
