@@ -5,7 +5,7 @@ _radpolicy_page() {
     COMPREPLY=()
     if [[ $word == -* ]]; then
         COMPREPLY=($(compgen -W '-f --hex --acct -i -S --authenticator --policy --reply --control --zone -o --force \
-            --show-secrets --hide -D --help' -- "$word"))
+            --show-secrets --hide --help' -- "$word"))
     else
         # bash takes the `=` of an option for a word of its own.
         [[ $word == = ]] && word=

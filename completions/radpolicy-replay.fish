@@ -6,8 +6,6 @@ complete -c radpolicy-replay -l ordered -d 'The order of different attributes co
 complete -c radpolicy-replay -l ignore -x -d 'Attribute to leave out'
 complete -c radpolicy-replay -l all -d 'Tell records that are answered alike too'
 complete -c radpolicy-replay -l show-replies -d 'Print the lists of captured replies'
-complete -c radpolicy-replay -l show -x -d 'Attribute of each request to show'
-complete -c radpolicy-replay -l only -x -a 'accept reject challenge accounting' -d 'Captured reply of the records to take'
 complete -c radpolicy-replay -l strict -d 'Status 1 if a record is refused'
 complete -c radpolicy-replay -l expect -r -F -d 'Earlier output to compare with'
 complete -c radpolicy-replay -l tap -d 'Print each record as a test'
@@ -20,4 +18,3 @@ complete -c radpolicy-replay -l format -x -a 'hex records detail log radclient r
 complete -c radpolicy-replay -l zone -x -d 'What a zone other than UTC stands for in dates'
 complete -c radpolicy-replay -l hide -x -d 'Attribute whose values are hidden'
 complete -c radpolicy-replay -l show-secrets -d 'Show replies that have secret values'
-complete -c radpolicy-replay -s D -x -a '(__fish_complete_directories)' -d 'Folder of the dictionaries'

@@ -5,7 +5,7 @@ _radpolicy_walk() {
     COMPREPLY=()
     if [[ $word == -* ]]; then
         COMPREPLY=($(compgen -W '-f --record --policy --hex -S --acct --reply --control --zone --script --show-secrets --hide
-            -D --help' -- "$word"))
+            --help' -- "$word"))
     else
         # bash takes the `=` of an option for a word of its own.
         [[ $word == = ]] && word=

@@ -1,6 +1,5 @@
-"""What each program of `drive` prints of one run, to the octet, but for `lookups`, whose run the gate makes, and `rows`,
-whose questions are those of tests/rows; and words that name none. As the gate runs a program, so is this one run as both
-compilers make it."""
+"""What each program of `drive` prints of one run, to the octet, but for `lookups`, whose run the gate makes; and words
+that name none. As the gate runs a program, so is this one run as both compilers make it."""
 from pathlib import Path
 from typing import List
 
@@ -13,7 +12,7 @@ REFUSED = Ended(1, b"", b"Error: Kind(InvalidInput)\n", 0.0, 0)
 # Words of which the first names no program, and words that a program takes none of.
 WRONG: List[List[str]] = [
     *([], [""], ["store"], ["Stores", "slots"], ["stores"], ["stores", "pairs"], ["stores", "slots", "list"]),
-    *(["walks", "slots"], ["lookups", ""], ["runs", *["x"] * 7], ["packets", "2", "x", "", ""], ["rows", "x"]),
+    *(["walks", "slots"], ["lookups", ""], ["runs", *["x"] * 7], ["packets", "2", "x", "", ""]),
 ]
 
 

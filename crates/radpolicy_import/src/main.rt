@@ -5,7 +5,6 @@ mod command_line;
 mod json_reports;
 mod outputs;
 mod reports;
-mod sections;
 mod sources;
 
 ghost use Rattle.std.specs.Prelude.{◌<◌, IfErr, IfOk, length};
@@ -18,7 +17,6 @@ use crate::reports::{
     OthersReport, refuse_value, show_fault, show_initial_fault, show_initial_line, show_others,
     show_report,
 };
-use crate::sections::tell_lack;
 use crate::sources::{
     FIRST, Given, NamedFiles, first_file, main_file, name_files, read_given, system_dictionaries,
     with_main, with_names,
@@ -171,11 +169,11 @@ fn imported(
     }
 }
 
-fn refuse_section(rt: &HostRuntime, plan: &Plan<'_>, configuration: &Configuration) -> u8 {
-    let word = plan.policy.or(plan.section).unwrap_or("authorize");
-    let status = refuse_value(rt, word);
-    tell_lack(rt, configuration, plan, wanted(plan));
-    status
+fn refuse_section(rt: &HostRuntime, plan: &Plan<'_>) -> u8 {
+    match plan.policy {
+        Some(name) => refuse_value(rt, name),
+        None => refuse_value(rt, plan.section.unwrap_or("authorize")),
+    }
 }
 
 /// What was made.
@@ -426,7 +424,7 @@ fn import_hiding(
     };
     let statements = match statements_meant(rt.alloc(), plan, &configuration) {
         Ok(Some(statements)) => statements,
-        Ok(None) => return Ok(refuse_section(rt, plan, &configuration)),
+        Ok(None) => return Ok(refuse_section(rt, plan)),
         Err(fault) => return refuse_statements(rt, fault),
     };
     let Some(initial) = add_pairs(rt, plan, read.given, &mut configuration) else {

@@ -19,8 +19,6 @@ const STRICT: &str = "strict";
 
 const HIDE: &str = "hide";
 
-const FOLDER: &str = "folder";
-
 const DICTIONARY: &str = "dictionary";
 
 /// What a command line asks for.
@@ -33,8 +31,6 @@ pub struct Plan<'a> {
     pub strict: bool,
     /// The names of attributes whose values are hidden, beside those that are secret as it is.
     pub hidden: Vec<&'a str>,
-    /// The folder of further dictionaries.
-    pub folder: Option<&'a str>,
     /// Dictionary files, the main one first.
     pub dictionaries: Vec<&'a str>,
 }
@@ -71,18 +67,9 @@ fn hide_option<'a>(alloc: Global) -> Arg<'a> {
     .long(HIDE)
 }
 
-fn folder_option<'a>(alloc: Global) -> Arg<'a> {
-    Arg::new(alloc, FOLDER)
-        .short('D')
-        .value_name("FOLDER")
-        .action(ArgAction::Set)
-        .help(
-            "The folder of the dictionaries [default: $RADPOLICY_DICTIONARIES, /usr/share/freeradius]",
-        )
-}
-
 fn dictionary_files<'a>(alloc: Global) -> Arg<'a> {
     Arg::new(alloc, DICTIONARY)
+        .required(true)
         .value_name("DICTIONARY")
         .num_args(1..)
         .action(ArgAction::Append)
@@ -106,7 +93,6 @@ fn program<'a>(alloc: Global) -> Result<clap::Command<'a>, AllocError> {
         .arg(format_option(alloc))?
         .arg(strict_option(alloc))?
         .arg(hide_option(alloc))?
-        .arg(folder_option(alloc))?
         .arg(dictionary_files(alloc))
 }
 
@@ -142,7 +128,6 @@ fn plan_of<'a>(alloc: Global, found: &ArgMatches<'a>) -> Result<Plan<'a>, Fault>
         format,
         strict: found.get_flag(STRICT),
         hidden: all_of(alloc, found, HIDE)?,
-        folder: found.get_str(FOLDER),
         dictionaries: all_of(alloc, found, DICTIONARY)?,
     })
 }

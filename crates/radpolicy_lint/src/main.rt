@@ -13,8 +13,8 @@ use crate::linting::{Found, Linter, Reading};
 use avp_dict::{Dictionary, FileSet};
 use radpolicy::Fault;
 use radpolicy_common::{
-    Unread, command_words, dictionaries_meant, lent_paths, named_attributes, read_dictionary_set,
-    read_file, refuse_early, show_help,
+    Unread, command_words, named_attributes, read_dictionary_set, read_file, refuse_early,
+    show_help,
 };
 use radpolicy_help::{refuse_name, refuse_unread_explained, refuse_words_of};
 use std::alloc::AllocError;
@@ -117,22 +117,9 @@ fn lint_plan(rt: &HostRuntime, plan: &Plan<'_>) -> u8 {
     }
 }
 
-// What is found by a plan, by the dictionaries that it means.
-fn lint_by_meant(rt: &HostRuntime, plan: Plan<'_>) -> u8 {
-    let Ok(paths) = dictionaries_meant(rt, &plan.dictionaries, plan.folder) else {
-        return refuse_early(rt, &Fault::Memory);
-    };
-    let Ok(lent) = lent_paths(rt.alloc(), &paths) else {
-        return refuse_early(rt, &Fault::Memory);
-    };
-    let mut meant = plan;
-    meant.dictionaries = lent;
-    lint_plan(rt, &meant)
-}
-
 fn lint_words(rt: &HostRuntime, words: &[String]) -> u8 {
     match read_words(rt.alloc(), words) {
-        Ok(plan) => lint_by_meant(rt, plan),
+        Ok(plan) => lint_plan(rt, &plan),
         Err(Fault::Help) => show_help(rt, help_text(rt.alloc(), words)),
         Err(fault) => refuse_words_of(rt, &fault, "radpolicy-lint", help_text(rt.alloc(), words)),
     }

@@ -38,8 +38,6 @@ const SHOW_SECRETS: &str = "show-secrets";
 
 const HIDE: &str = "hide";
 
-const FOLDER: &str = "folder";
-
 const DICTIONARY: &str = "dictionary";
 
 /// What a command line asks for.
@@ -64,8 +62,6 @@ pub struct Plan<'a> {
     pub secrets: SecretValues,
     /// The names of attributes that are hidden as well.
     pub hidden: Vec<&'a str>,
-    /// The folder of further dictionaries.
-    pub folder: Option<&'a str>,
     pub dictionaries: Vec<&'a str>,
 }
 
@@ -136,18 +132,9 @@ fn hide_option<'a>(alloc: Global) -> Arg<'a> {
         .help("Hides the values of an attribute too; may be given more than once")
 }
 
-fn folder_option<'a>(alloc: Global) -> Arg<'a> {
-    Arg::new(alloc, FOLDER)
-        .short('D')
-        .value_name("FOLDER")
-        .action(ArgAction::Set)
-        .help(
-            "The folder of the dictionaries [default: $RADPOLICY_DICTIONARIES, /usr/share/freeradius]",
-        )
-}
-
 fn dictionary_files<'a>(alloc: Global) -> Arg<'a> {
     Arg::new(alloc, DICTIONARY)
+        .required(true)
         .value_name("DICTIONARY")
         .num_args(1..)
         .action(ArgAction::Append)
@@ -185,7 +172,6 @@ fn program<'a>(alloc: Global) -> Result<clap::Command<'a>, AllocError> {
         ))?
         .arg(flag(alloc, SHOW_SECRETS, "Shows passwords and keys"))?
         .arg(hide_option(alloc))?
-        .arg(folder_option(alloc))?
         .arg(dictionary_files(alloc))
 }
 
@@ -248,13 +234,8 @@ fn shown_secrets(found: &ArgMatches<'_>) -> SecretValues {
     }
 }
 
-// The words that an option gives.
-fn names_of<'a>(
-    alloc: Global,
-    found: &ArgMatches<'a>,
-    option: &str,
-) -> Result<Vec<&'a str>, AllocError> {
-    match found.get_strs(option) {
+fn hidden_names<'a>(alloc: Global, found: &ArgMatches<'a>) -> Result<Vec<&'a str>, AllocError> {
+    match found.get_strs(HIDE) {
         Some(names) => Vec::from_slice(alloc, names),
         None => Ok(Vec::new(alloc)),
     }
@@ -263,6 +244,7 @@ fn names_of<'a>(
 fn plan_of<'a>(alloc: Global, found: &ArgMatches<'a>) -> Result<Plan<'a>, Fault>
     ensures { IfErr result IsWordFault }
 {
+    let files = found.get_strs(DICTIONARY).ok_or(Fault::Usage)?;
     Ok(Plan {
         form: form_of(found)?,
         identifier: identifier_of(found)?,
@@ -276,9 +258,8 @@ fn plan_of<'a>(alloc: Global, found: &ArgMatches<'a>) -> Result<Plan<'a>, Fault>
         output: found.get_str(OUTPUT),
         is_forced: found.get_flag(FORCE),
         secrets: shown_secrets(found),
-        hidden: names_of(alloc, found, HIDE)?,
-        folder: found.get_str(FOLDER),
-        dictionaries: names_of(alloc, found, DICTIONARY)?,
+        hidden: hidden_names(alloc, found)?,
+        dictionaries: Vec::from_slice(alloc, files)?,
     })
 }
 

@@ -19,11 +19,10 @@ use avp_lists::{AttrId, Octets};
 use hex::FromHexError;
 use radpolicy::{Fault, Form, PreparedPolicy, RequestHead, RequestKind, Secret, Start, status};
 use radpolicy_common::{
-    Hiding, Unread, command_words, dictionaries_meant, file_kind, lent_paths, named_attributes,
-    read_dictionary_set, read_file, read_optional, read_standard_input, refuse_early, refuse_kind,
-    refuse_outputs, show_help,
+    Hiding, Unread, command_words, named_attributes, read_dictionary_set, read_file, read_optional,
+    read_standard_input, refuse_early, refuse_outputs, show_help,
 };
-use radpolicy_help::{STANDARD_INPUT, refuse_name, refuse_unread_explained, refuse_words_of};
+use radpolicy_help::{refuse_name, refuse_unread_explained, refuse_words_of};
 use radpolicy_page_data::{Page, PageFault, page_of};
 use std::alloc::{AllocError, Global};
 use std::process::ExitCode;
@@ -227,31 +226,15 @@ fn show_plan(rt: &HostRuntime, plan: &Plan<'_>) -> u8 {
         Ok(files) => files,
         Err(unread) => return refuse_unread_explained(rt, unread),
     };
-    if let Some(kind) = file_kind(files.request.as_slice()) {
-        return refuse_kind(rt, PROGRAM, plan.request.unwrap_or(STANDARD_INPUT), kind);
-    }
     match show_files(rt, plan, &files) {
         Ok(status) => status,
         Err(fault) => refuse_files(rt, plan, &files, &fault),
     }
 }
 
-// Shows the page of a plan, by the dictionaries that it means.
-fn show_by_meant(rt: &HostRuntime, plan: Plan<'_>) -> u8 {
-    let Ok(paths) = dictionaries_meant(rt, &plan.dictionaries, plan.folder) else {
-        return refuse_early(rt, &Fault::Memory);
-    };
-    let Ok(lent) = lent_paths(rt.alloc(), &paths) else {
-        return refuse_early(rt, &Fault::Memory);
-    };
-    let mut meant = plan;
-    meant.dictionaries = lent;
-    show_plan(rt, &meant)
-}
-
 fn obey_words(rt: &HostRuntime, words: &[String]) -> u8 {
     match read_words(rt.alloc(), words) {
-        Ok(plan) => show_by_meant(rt, plan),
+        Ok(plan) => show_plan(rt, &plan),
         Err(Fault::Help) => show_help(rt, help_text(rt.alloc(), words)),
         Err(fault) => refuse_words_of(rt, &fault, PROGRAM, help_text(rt.alloc(), words)),
     }

@@ -5,11 +5,9 @@ mod client_help;
 mod command_line;
 mod counted_lines;
 mod counters;
-mod equal_differences;
 mod expected;
 mod json_summaries;
 mod log_watches;
-mod options;
 mod places;
 mod secrets;
 mod streams;
@@ -29,7 +27,7 @@ use crate::counters::{CountedLines, CountedRecords, Counter};
 use crate::expected::{DIFFERENT, expected_status, open_expected};
 use crate::places::{FileLine, refuse_in, refuse_unread};
 use crate::secrets::{HeldSecrets, held_secrets, read_secret};
-use crate::streams::{Early, flush, refuse_input, write_text};
+use crate::streams::{flush, refuse_replay, write_text};
 use crate::summaries::{Ended, show_summary};
 use crate::to_hex::write_packets;
 use crate::traffic::{Traffic, read_beginning};
@@ -37,11 +35,11 @@ use avp_dict::{Dictionary, FileSet};
 use avp_lists::{AttrId, Octets};
 use radpolicy::{Fault, PreparedPolicy, status};
 use radpolicy_common::{
-    Hiding, Redaction, Unread, command_words, dictionaries_meant, lent_paths, named_attributes,
-    read_dictionary_set, read_file, refuse_early, show_help,
+    Hiding, Redaction, Unread, command_words, named_attributes, read_dictionary_set, read_file,
+    refuse_early, show_help,
 };
 use radpolicy_help::{Source, Sources, refuse_name, refuse_words_of};
-use radpolicy_record_answers::{Against, Comparison, Shown};
+use radpolicy_record_answers::{Against, Comparison};
 use radpolicy_replay_records::{Layout, RecordReader, Records, Replay, ReplayFault, Summary};
 use std::alloc::{AllocError, Global};
 use std::fs::File;
@@ -151,13 +149,15 @@ fn run_input<W: Write>(
     plan: &Plan<'_>,
     replay: &Replay<'_>,
     out: &mut W,
-) -> Result<Ended, Early> {
+) -> Result<Ended, ReplayFault> {
     let counter = Counter::new(rt);
     let mut input = rt.stdin();
-    let beginning = read_beginning(rt.alloc(), &mut input, plan.traffic)?;
+    if let Some(traffic) = plan.traffic {
+        return run_traffic(rt, plan, replay, traffic, counter, input, out);
+    }
+    let beginning = read_beginning(rt.alloc(), &mut input)?;
     let whole = beginning.octets.as_slice().chain(input);
-    let ended = run_traffic(rt, plan, replay, beginning.traffic, counter, whole, out)?;
-    Ok(ended)
+    run_traffic(rt, plan, replay, beginning.traffic, counter, whole, out)
 }
 
 // The last line of tests, which says how many there were.
@@ -173,7 +173,7 @@ fn run_laid_out<W: Write>(
     plan: &Plan<'_>,
     replay: &Replay<'_>,
     out: &mut W,
-) -> Result<Ended, Early> {
+) -> Result<Ended, ReplayFault> {
     if matches!(plan.layout, Layout::Plain | Layout::Json) {
         return run_input(rt, plan, replay, out);
     }
@@ -195,7 +195,7 @@ fn replay_to<W: Write>(
             Ok(()) => status_of(plan.strict, &ended.summary),
             Err(_) => refuse_early(rt, &Fault::Memory),
         },
-        Err(early) => refuse_input(rt, early),
+        Err(fault) => refuse_replay(rt, fault),
     }
 }
 
@@ -268,13 +268,12 @@ fn comparison_of<'a>(
     })
 }
 
-// What a plan says beside its policies: the secrets, the attributes that are left out where replies are compared, those
-// that are hidden besides, and those that are shown of requests.
+// What a plan says beside its policies: the secrets, the attributes that are left out where replies are compared, and
+// those that are hidden besides.
 struct Settings<'a> {
     secrets: HeldSecrets<'a>,
     ignored: Vec<AttrId>,
     hidden: Vec<AttrId>,
-    shown: Vec<AttrId>,
 }
 
 // As a function, so that where settings are dropped a proof sees one step.
@@ -284,7 +283,6 @@ impl<'a> Drop for Settings<'a> {
             secrets: _,
             ignored: _,
             hidden: _,
-            shown: _,
         } = self;
     }
 }
@@ -306,16 +304,11 @@ fn settings_of<'a>(
         Ok(ignored) => ignored,
         Err(name) => return Ok(Err(refuse_name(rt, dictionary, name))),
     };
-    let hidden = match named_attributes(rt.alloc(), dictionary, &plan.hidden)? {
-        Ok(hidden) => hidden,
-        Err(name) => return Ok(Err(refuse_name(rt, dictionary, name))),
-    };
-    match named_attributes(rt.alloc(), dictionary, &plan.shown)? {
-        Ok(shown) => Ok(Ok(Settings {
+    match named_attributes(rt.alloc(), dictionary, &plan.hidden)? {
+        Ok(hidden) => Ok(Ok(Settings {
             secrets,
             ignored,
             hidden,
-            shown,
         })),
         Err(name) => Ok(Err(refuse_name(rt, dictionary, name))),
     }
@@ -397,12 +390,6 @@ fn replay_by(
         shared: settings.secrets.shared(),
         comparison: comparison_of(plan, &against, &settings.ignored),
         redaction: &redaction,
-        shown: Shown {
-            ids: &settings.shown,
-            dictionary: &dictionary,
-            redaction: &redaction,
-        },
-        only: plan.only,
         layout: plan.layout,
     };
     let texts = PolicyTexts {
@@ -492,23 +479,10 @@ fn replay_plan(rt: &HostRuntime, plan: &Plan<'_>) -> u8 {
     }
 }
 
-// The replay of a plan, by the dictionaries that it means.
-fn replay_by_meant(rt: &HostRuntime, plan: Plan<'_>) -> u8 {
-    let Ok(paths) = dictionaries_meant(rt, &plan.dictionaries, plan.folder) else {
-        return refuse_early(rt, &Fault::Memory);
-    };
-    let Ok(lent) = lent_paths(rt.alloc(), &paths) else {
-        return refuse_early(rt, &Fault::Memory);
-    };
-    let mut meant = plan;
-    meant.dictionaries = lent;
-    replay_plan(rt, &meant)
-}
-
 fn replay_words(rt: &HostRuntime, words: &[String]) -> u8 {
     match read_words(rt.alloc(), words) {
-        Ok(Asked::Replay(plan)) => replay_by_meant(rt, plan),
-        Ok(Asked::Packets(plan)) => write_packets(rt, plan),
+        Ok(Asked::Replay(plan)) => replay_plan(rt, &plan),
+        Ok(Asked::Packets(plan)) => write_packets(rt, &plan),
         Err(Fault::Help) => show_help(rt, help_text(rt.alloc(), words)),
         Err(fault) => refuse_words_of(rt, &fault, "radpolicy-replay", help_text(rt.alloc(), words)),
     }

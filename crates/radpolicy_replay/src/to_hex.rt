@@ -8,12 +8,12 @@ use crate::command_line::PacketsPlan;
 use crate::log_watches::LogWatch;
 use crate::places::{FileLine, refuse_in, refuse_unread};
 use crate::secrets::{held_secrets, read_secret};
-use crate::streams::{Early, flush, refuse_input, write_text};
+use crate::streams::{flush, refuse_replay, write_text};
 use crate::traffic::{Traffic, read_beginning};
 use avp_dict::{Dictionary, FileSet};
 use avp_lists::Octets;
 use radpolicy::Fault;
-use radpolicy_common::{dictionaries_meant, lent_paths, read_dictionary_set, refuse_early};
+use radpolicy_common::{read_dictionary_set, refuse_early};
 use radpolicy_help::{Source, Sources};
 use radpolicy_record_answers::{entry_of_record, text_source};
 use radpolicy_replay_records::{RecordReader, Records, ReplayFault, SharedSecrets};
@@ -131,12 +131,14 @@ fn write_input<W: Write>(
     plan: &PacketsPlan<'_>,
     making: &Making<'_>,
     out: &mut W,
-) -> Result<Option<Counts>, Early> {
+) -> Result<Option<Counts>, ReplayFault> {
     let mut input = rt.stdin();
-    let beginning = read_beginning(rt.alloc(), &mut input, plan.traffic)?;
+    if let Some(traffic) = plan.traffic {
+        return write_traffic(rt, making, traffic, input, out);
+    }
+    let beginning = read_beginning(rt.alloc(), &mut input)?;
     let whole = beginning.octets.as_slice().chain(input);
-    let counts = write_traffic(rt, making, beginning.traffic, whole, out)?;
-    Ok(counts)
+    write_traffic(rt, making, beginning.traffic, whole, out)
 }
 
 fn written(rt: &HostRuntime, plan: &PacketsPlan<'_>, making: &Making<'_>) -> u8 {
@@ -149,7 +151,7 @@ fn written(rt: &HostRuntime, plan: &PacketsPlan<'_>, making: &Making<'_>) -> u8 
             0
         }
         Ok(None) => 0,
-        Err(early) => refuse_input(rt, early),
+        Err(fault) => refuse_replay(rt, fault),
     }
 }
 
@@ -203,7 +205,8 @@ fn refuse_files(rt: &HostRuntime, plan: &PacketsPlan<'_>, files: &FileSet, fault
     refuse_in(rt, fault, place, files, &sources)
 }
 
-fn packets_plan(rt: &HostRuntime, plan: &PacketsPlan<'_>) -> u8 {
+/// Writes the records of standard input as lines of packets.
+pub fn write_packets(rt: &HostRuntime, plan: &PacketsPlan<'_>) -> u8 {
     let files = match read_dictionary_set(rt, plan.dictionaries.as_slice()) {
         Ok(files) => files,
         Err(unread) => return refuse_unread(rt, unread),
@@ -216,17 +219,4 @@ fn packets_plan(rt: &HostRuntime, plan: &PacketsPlan<'_>) -> u8 {
         Ok(status) => status,
         Err(fault) => refuse_files(rt, plan, &files, &fault),
     }
-}
-
-/// Writes the records of standard input as lines of packets, by the dictionaries that the plan means.
-pub fn write_packets(rt: &HostRuntime, plan: PacketsPlan<'_>) -> u8 {
-    let Ok(paths) = dictionaries_meant(rt, &plan.dictionaries, plan.folder) else {
-        return refuse_early(rt, &Fault::Memory);
-    };
-    let Ok(lent) = lent_paths(rt.alloc(), &paths) else {
-        return refuse_early(rt, &Fault::Memory);
-    };
-    let mut meant = plan;
-    meant.dictionaries = lent;
-    packets_plan(rt, &meant)
 }

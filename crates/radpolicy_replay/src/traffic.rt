@@ -1,7 +1,5 @@
 //! What the records of standard input are.
 
-use crate::streams::Early;
-use radpolicy_common::file_kind;
 use radpolicy_record_answers::request_octets;
 use radpolicy_replay_records::ReplayFault;
 use radpolicy_traffic::{Format, format_of};
@@ -74,13 +72,8 @@ fn traffic_of(alloc: Global, lines: &[u8]) -> Option<Traffic> {
     None
 }
 
-// Reads an input up to the first line that tells what its records are, if that is not named. They are lines of packets
-// where none does.
-fn read_lines<R: Read>(
-    alloc: Global,
-    input: &mut R,
-    named: Option<Traffic>,
-) -> Result<Beginning, ReplayFault> {
+/// Reads an input up to the first line that tells what its records are. They are lines of packets where none does.
+pub fn read_beginning<R: Read>(alloc: Global, input: &mut R) -> Result<Beginning, ReplayFault> {
     let mut octets = Vec::new(alloc);
     let mut block = [0; BLOCK_OCTETS];
     for _ in 0..MAX_BLOCKS {
@@ -88,8 +81,7 @@ fn read_lines<R: Read>(
             return Err(ReplayFault::Input);
         };
         octets.extend_from_slice(&block[..count])?;
-        let told = traffic_of(alloc, ended_lines(&octets, count == 0));
-        if let Some(traffic) = named.or(told) {
+        if let Some(traffic) = traffic_of(alloc, ended_lines(&octets, count == 0)) {
             return Ok(Beginning { octets, traffic });
         }
         if count == 0 {
@@ -100,18 +92,4 @@ fn read_lines<R: Read>(
         octets,
         traffic: Traffic::Hex,
     })
-}
-
-/// Reads the beginning of an input whose records are named, or are told by its first line that tells it. An input of
-/// another kind is refused by that.
-pub fn read_beginning<R: Read>(
-    alloc: Global,
-    input: &mut R,
-    named: Option<Traffic>,
-) -> Result<Beginning, Early> {
-    let beginning = read_lines(alloc, input, named)?;
-    match file_kind(&beginning.octets) {
-        Some(kind) => Err(Early::Kind(kind)),
-        None => Ok(beginning),
-    }
 }

@@ -1,4 +1,3 @@
-pub mod CountedAgain
 pub mod Counting
 pub mod Cutting
 pub mod Progress

@@ -2,10 +2,6 @@
 //! answer to each.
 #![tactic(auto)]
 
-mod difference_counts;
-mod differences;
-mod entry_texts;
-mod headings;
 mod inputs;
 mod json_entries;
 mod json_members;
@@ -15,9 +11,7 @@ mod lines;
 mod replays;
 mod runners;
 mod summaries;
-mod taking;
 
-pub use difference_counts::{DifferenceCount, DifferenceCounts, MAX_DIFFERENCES, MAX_NAMES};
 pub use inputs::{RecordReader, Records};
 pub use layouts::Layout;
 pub use line_counts::{LineCount, LineCounts};

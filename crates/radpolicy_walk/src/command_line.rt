@@ -34,8 +34,6 @@ const SHOW_SECRETS: &str = "show-secrets";
 
 const HIDE: &str = "hide";
 
-const FOLDER: &str = "folder";
-
 const DICTIONARY: &str = "dictionary";
 
 /// What a command line asks for.
@@ -44,8 +42,8 @@ pub struct Plan<'a> {
     pub form: Form,
     /// The request's file; standard input where there is none.
     pub request: Option<&'a str>,
-    /// The name of the record that is the request, where the file has several.
-    pub record: Option<&'a str>,
+    /// The number of the record that is the request, from 1 on, where the file is a log or has several requests.
+    pub record: Option<usize>,
     pub policy: &'a str,
     pub secret: Option<&'a str>,
     pub reply: Option<&'a str>,
@@ -57,8 +55,6 @@ pub struct Plan<'a> {
     pub secrets: SecretValues,
     /// The names of attributes that are hidden as well.
     pub hidden: Vec<&'a str>,
-    /// The folder of further dictionaries.
-    pub folder: Option<&'a str>,
     pub dictionaries: Vec<&'a str>,
 }
 
@@ -82,8 +78,8 @@ fn request_option<'a>(alloc: Global) -> Arg<'a> {
 }
 
 fn record_option<'a>(alloc: Global) -> Arg<'a> {
-    let help = "The request is the record that radpolicy-replay calls so, as (4) of a server's log";
-    file_option(alloc, RECORD, "NAME", help).long(RECORD)
+    let help = "The request is the N-th of a log, a detail file or a file of several requests";
+    file_option(alloc, RECORD, "N", help).long(RECORD)
 }
 
 fn policy_option<'a>(alloc: Global) -> Arg<'a> {
@@ -123,18 +119,9 @@ fn hide_option<'a>(alloc: Global) -> Arg<'a> {
         .help("Hides the values of an attribute too; may be given more than once")
 }
 
-fn folder_option<'a>(alloc: Global) -> Arg<'a> {
-    Arg::new(alloc, FOLDER)
-        .short('D')
-        .value_name("FOLDER")
-        .action(ArgAction::Set)
-        .help(
-            "The folder of the dictionaries [default: $RADPOLICY_DICTIONARIES, /usr/share/freeradius]",
-        )
-}
-
 fn dictionary_files<'a>(alloc: Global) -> Arg<'a> {
     Arg::new(alloc, DICTIONARY)
+        .required(true)
         .value_name("DICTIONARY")
         .num_args(1..)
         .action(ArgAction::Append)
@@ -166,7 +153,6 @@ fn program<'a>(alloc: Global) -> Result<clap::Command<'a>, AllocError> {
         .arg(script_option(alloc))?
         .arg(flag(alloc, SHOW_SECRETS, "Shows passwords and keys"))?
         .arg(hide_option(alloc))?
-        .arg(folder_option(alloc))?
         .arg(dictionary_files(alloc))
 }
 
@@ -183,13 +169,16 @@ fn form_of(found: &ArgMatches<'_>) -> Result<Form, Fault>
     }
 }
 
-// The name of the record that is the request, which says of itself whether it is an Accounting-Request.
-fn record_of<'a>(found: &ArgMatches<'a>, form: Form) -> Result<Option<&'a str>, Fault>
+// The number of the record that is the request. What the request is, and how it is given, is in the record.
+fn record_of(found: &ArgMatches<'_>, form: Form) -> Result<Option<usize>, Fault>
     ensures { IfErr result IsWordFault }
 {
-    match found.get_str(RECORD) {
-        Some(_) if form == Form::Accounting => Err(Fault::OptionValue),
-        name => Ok(name),
+    let Some(word) = found.get_str(RECORD) else {
+        return Ok(None);
+    };
+    match word.parse::<usize>() {
+        Ok(number) if number > 0 && form == Form::Access => Ok(Some(number)),
+        _ => Err(Fault::OptionValue),
     }
 }
 
@@ -213,13 +202,8 @@ fn shown_secrets(found: &ArgMatches<'_>) -> SecretValues {
     }
 }
 
-// The words that an option gives.
-fn names_of<'a>(
-    alloc: Global,
-    found: &ArgMatches<'a>,
-    option: &str,
-) -> Result<Vec<&'a str>, AllocError> {
-    match found.get_strs(option) {
+fn hidden_names<'a>(alloc: Global, found: &ArgMatches<'a>) -> Result<Vec<&'a str>, AllocError> {
+    match found.get_strs(HIDE) {
         Some(names) => Vec::from_slice(alloc, names),
         None => Ok(Vec::new(alloc)),
     }
@@ -228,6 +212,7 @@ fn names_of<'a>(
 fn plan_of<'a>(alloc: Global, found: &ArgMatches<'a>) -> Result<Plan<'a>, Fault>
     ensures { IfErr result IsWordFault }
 {
+    let files = found.get_strs(DICTIONARY).ok_or(Fault::Usage)?;
     let (request, script) = (found.get_str(REQUEST), found.get_str(SCRIPT));
     // Standard input has either the request or the commands.
     if request.is_none() && script.is_none() {
@@ -245,9 +230,8 @@ fn plan_of<'a>(alloc: Global, found: &ArgMatches<'a>) -> Result<Plan<'a>, Fault>
         zone: zone_of(found)?,
         script,
         secrets: shown_secrets(found),
-        hidden: names_of(alloc, found, HIDE)?,
-        folder: found.get_str(FOLDER),
-        dictionaries: names_of(alloc, found, DICTIONARY)?,
+        hidden: hidden_names(alloc, found)?,
+        dictionaries: Vec::from_slice(alloc, files)?,
     })
 }
 
@@ -260,7 +244,7 @@ fn refusal_of(found: &ArgMatches<'_>) -> &'static str {
         Ok(form) if record_of(found, form).is_ok() => {
             "--zone takes what a zone is ahead of UTC, as +01:00\n"
         }
-        Ok(_) => "--record goes without --acct\n",
+        Ok(_) => "--record takes a number from 1, and goes without --hex and --acct\n",
         Err(_) => {
             "--hex needs -S and the file that has the client's secret, and -S needs --hex; --acct goes without them\n"
         }

@@ -11,24 +11,23 @@ ghost use Rattle.radpolicy.specs.Faults.{IsPrintedAnywhere, IsPrintedWith};
 
 use crate::command_line::{Plan, help_text, read_words};
 use crate::dialogues::{Beginning, Dialogue, Ending, PolicyLines};
-use crate::records::{RecordedRequest, Search, find_record};
+use crate::records::{form_of_record, read_record};
 use avp_dict::{Dictionary, FileSet};
 use avp_forms::Profile;
 use avp_lists::{AttrId, Octets};
 use hex::FromHexError;
-use radpolicy::{Fault, Form, PreparedPolicy, RequestHead, RequestKind, Secret, Start, status};
+use radpolicy::{Fault, Form, PreparedPolicy, RequestHead, RequestKind, Secret, Start};
 use radpolicy_common::{
-    Hiding, LineBreaks, Unread, command_words, dictionaries_meant, file_kind, lent_paths,
-    named_attributes, policy_shown, read_dictionary_set, read_file, read_optional,
-    read_standard_input, refuse, refuse_early, refuse_kind, refuse_unread, show_help, visible_text,
+    Hiding, Unread, command_words, named_attributes, policy_shown, read_dictionary_set, read_file,
+    read_optional, read_standard_input, refuse, refuse_early, refuse_unread, show_help,
 };
 use radpolicy_help::{
     STANDARD_INPUT, Source, Sources, refuse_explained, refuse_name, refuse_unread_explained,
     refuse_words_of,
 };
+use radpolicy_traffic::Record;
 use radpolicy_walk_commands::Session;
 use std::alloc::{AllocError, Global};
-use std::io::Write;
 use std::process::ExitCode;
 
 // What the files of a plan hold.
@@ -41,8 +40,6 @@ struct Files {
     reply: Option<Octets>,
     control: Option<Octets>,
     script: Option<Octets>,
-    // What is said of the record that is the request; empty where the file is it.
-    title: Octets,
 }
 
 fn read_request<'a>(rt: &HostRuntime, plan: &Plan<'a>) -> Result<Octets, Unread<'a>> {
@@ -66,31 +63,31 @@ fn read_files<'a>(rt: &HostRuntime, plan: &Plan<'a>) -> Result<Files, Unread<'a>
         reply: read_optional(rt, plan.reply)?,
         control: read_optional(rt, plan.control)?,
         script: read_optional(rt, plan.script)?,
-        title: Octets::from_vec(Vec::new(rt.alloc())),
     })
 }
 
 // Puts the request of a record in the place of the file's text, and the lists that it begins with where no file has
 // them; and says how the request is given.
-fn take_record(files: &mut Files, record: RecordedRequest) -> Form
-    ensures { files.new.dictionary ≡ files.old.dictionary }
+fn take_record(alloc: Global, files: &mut Files, number: usize) -> Result<Form, Fault>
+    ensures dictionary { files.new.dictionary ≡ files.old.dictionary }
+    ensures refused { IfErr result IsPrintedAnywhere }
 {
-    let RecordedRequest {
-        form,
-        text,
-        reply,
-        control,
-        title,
+    let record = read_record(alloc, files.request.as_slice(), number)?;
+    let form = form_of_record(&record)?;
+    let Record {
+        request,
+        initial_reply,
+        initial_control,
+        ..
     } = record;
-    files.request = Octets::from_vec(text);
+    files.request = Octets::from_vec(request);
     if files.reply.is_none() {
-        files.reply = Some(Octets::from_vec(reply));
+        files.reply = Some(Octets::from_vec(initial_reply));
     }
     if files.control.is_none() {
-        files.control = Some(Octets::from_vec(control));
+        files.control = Some(Octets::from_vec(initial_control));
     }
-    files.title = Octets::from_vec(title.into_bytes());
-    form
+    Ok(form)
 }
 
 fn without_white_space(alloc: Global, text: &[u8]) -> Result<Vec<u8>, AllocError> {
@@ -209,7 +206,7 @@ fn walk_from<'a>(
     let session = Session::new(alloc, start, beginning.hiding)?;
     let shown = policy_shown(alloc, session.redaction(), text)?;
     let lines = PolicyLines::new(alloc, text, &shown)?;
-    let mut dialogue = Dialogue::new(rt, beginning, session, lines, files.title.as_slice());
+    let mut dialogue = Dialogue::new(rt, beginning, session, lines);
     Ok(match &files.script {
         Some(script) => dialogue.follow_script(rt, script.as_slice()),
         None => dialogue.follow_input(rt),
@@ -269,11 +266,11 @@ fn octets_in(file: &Option<Octets>) -> &[u8] {
     }
 }
 
-// The name of the request in a place: that of its file, and that of the record in it.
+// The name of the request in a place: that of its file, and the number of the record in it.
 fn request_name(alloc: Global, plan: &Plan<'_>) -> Result<String, AllocError> {
     let path = plan.request.unwrap_or(STANDARD_INPUT);
     match plan.record {
-        Some(name) => format!(in alloc; "{path} record {name}"),
+        Some(number) => format!(in alloc; "{path} record {number}"),
         None => format!(in alloc; "{path}"),
     }
 }
@@ -332,36 +329,10 @@ fn refuse_files(rt: &HostRuntime, plan: &Plan<'_>, files: &Files, fault: &Fault)
     refuse_explained(rt, fault, &files.dictionary, &sources)
 }
 
-// Why the record of this name is not the request.
-fn record_text(
-    alloc: Global,
-    plan: &Plan<'_>,
-    name: &str,
-    search: &Search,
-) -> Result<String, AllocError> {
-    let path = plan.request.unwrap_or(STANDARD_INPUT);
-    match search {
-        Search::Missing(1) => format!(in alloc; "there is no record {name}: {path} has 1 record\n"),
-        Search::Missing(read) => {
-            format!(in alloc; "there is no record {name}: {path} has {read} records\n")
-        }
-        Search::Packets => {
-            format!(in alloc; "{path} has lines of packets: write --hex and -S SECRET-FILE too\n")
-        }
-        Search::NoRequest | Search::Found(_) => {
-            format!(in alloc; "record {name} of {path} is no request whose lines are all there\n")
-        }
-    }
-}
-
-fn refuse_record(rt: &HostRuntime, plan: &Plan<'_>, name: &str, search: &Search) -> u8 {
-    let _ = eprint!(rt; "radpolicy-walk: ");
-    if let Ok(said) = record_text(rt.alloc(), plan, name, search)
-        && let Ok(visible) = visible_text(rt.alloc(), said.as_bytes(), LineBreaks::Kept)
-    {
-        let _ = rt.stderr().write_all(&visible);
-    }
-    status(&Fault::OptionValue)
+// What is said of the number of a record that is not read.
+fn record_text(alloc: Global, plan: &Plan<'_>) -> Result<String, AllocError> {
+    let request = request_name(alloc, plan)?;
+    format!(in alloc; "there is no {request}, or it is no request whose lines are all there\n")
 }
 
 fn walk_plan(rt: &HostRuntime, plan: &Plan<'_>) -> u8 {
@@ -369,19 +340,13 @@ fn walk_plan(rt: &HostRuntime, plan: &Plan<'_>) -> u8 {
         Ok(files) => files,
         Err(unread) => return refuse_unread_explained(rt, unread),
     };
-    if let Some(kind) = file_kind(files.request.as_slice()) {
-        return refuse_kind(
-            rt,
-            "radpolicy-walk",
-            plan.request.unwrap_or(STANDARD_INPUT),
-            kind,
-        );
-    }
     let form = match plan.record {
-        Some(name) => match find_record(rt.alloc(), files.request.as_slice(), plan.form, name) {
-            Ok(Search::Found(record)) => take_record(&mut files, record),
-            Ok(search) => return refuse_record(rt, plan, name, &search),
-            Err(_) => return refuse_early(rt, &Fault::Memory),
+        Some(number) => match take_record(rt.alloc(), &mut files, number) {
+            Ok(form) => form,
+            Err(fault) => {
+                let said = record_text(rt.alloc(), plan);
+                return refuse_words_of(rt, &fault, "radpolicy-walk", said);
+            }
         },
         None => plan.form,
     };
@@ -391,22 +356,9 @@ fn walk_plan(rt: &HostRuntime, plan: &Plan<'_>) -> u8 {
     }
 }
 
-// The walk of a plan, by the dictionaries that it means.
-fn walk_by_meant(rt: &HostRuntime, plan: Plan<'_>) -> u8 {
-    let Ok(paths) = dictionaries_meant(rt, &plan.dictionaries, plan.folder) else {
-        return refuse_early(rt, &Fault::Memory);
-    };
-    let Ok(lent) = lent_paths(rt.alloc(), &paths) else {
-        return refuse_early(rt, &Fault::Memory);
-    };
-    let mut meant = plan;
-    meant.dictionaries = lent;
-    walk_plan(rt, &meant)
-}
-
 fn walk_words(rt: &HostRuntime, words: &[String]) -> u8 {
     match read_words(rt.alloc(), words) {
-        Ok(plan) => walk_by_meant(rt, plan),
+        Ok(plan) => walk_plan(rt, &plan),
         Err(Fault::Help) => show_help(rt, help_text(rt.alloc(), words)),
         Err(fault) => refuse_words_of(rt, &fault, "radpolicy-walk", help_text(rt.alloc(), words)),
     }

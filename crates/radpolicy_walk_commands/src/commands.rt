@@ -28,8 +28,6 @@ pub enum Command {
     Delete(usize),
     /// The lines with breaks.
     Breaks,
-    /// The place.
-    Where,
     /// A list, or all three.
     Show(Option<List>),
     /// The instances of an attribute.
