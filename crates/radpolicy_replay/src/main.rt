@@ -33,7 +33,7 @@ use crate::to_hex::write_packets;
 use crate::traffic::{Traffic, read_beginning};
 use avp_dict::{Dictionary, FileSet};
 use avp_lists::{AttrId, Octets};
-use radpolicy::{Fault, PreparedPolicy, status};
+use radpolicy::{Fault, PreparedPolicy};
 use radpolicy_common::{
     Hiding, Redaction, Unread, command_words, named_attributes, read_dictionary_set, read_file,
     refuse_early, show_help,
