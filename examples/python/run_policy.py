@@ -1,8 +1,8 @@
 #!/usr/bin/env python3
 """Runs a policy on a packet in hexadecimal digits (standard input), and prints the report.
 usage: run_policy.py SECRET-FILE POLICY DICTIONARY.. <PACKET
-The secret is the first line of its file. The module radpolicy is installed with the library; PYTHONPATH and
-RADPOLICY_LIBRARY name them where they are elsewhere."""
+The secret is the first line of its file. The module radpolicy is installed with the library: PYTHONPATH names its
+folder, as /usr/share/radpolicy/python, and RADPOLICY_LIBRARY the library where the system does not find it."""
 import sys
 from pathlib import Path
 
