@@ -6,7 +6,7 @@ _radpolicy_lint() {
     if [[ $before == --format ]]; then
         COMPREPLY=($(compgen -W 'text gcc json' -- "$word"))
     elif [[ $word == -* ]]; then
-        COMPREPLY=($(compgen -W '--policy -f --format --strict --hide --help' -- "$word"))
+        COMPREPLY=($(compgen -W '--policy -f --format --strict --hide -D --help' -- "$word"))
     else
         IFS=$'\n'
         COMPREPLY=($(compgen -f -- "$word"))

@@ -4,8 +4,8 @@ _radpolicy_page() {
     local IFS=$' \t\n'
     COMPREPLY=()
     if [[ $word == -* ]]; then
-        COMPREPLY=($(compgen -W '-f --hex --acct -i -S --authenticator --policy --reply --control --zone -o --force \
-            --show-secrets --hide --help' -- "$word"))
+        COMPREPLY=($(compgen -W '-f --record --server --hex --acct -i -S --authenticator --policy --reply --control --zone -o \
+            --force --show-secrets --hide -D --help' -- "$word"))
     else
         # bash takes the `=` of an option for a word of its own.
         [[ $word == = ]] && word=

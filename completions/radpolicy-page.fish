@@ -1,6 +1,8 @@
 # Completes the words of radpolicy-page in fish.
 complete -c radpolicy-page -s h -l help -f -d 'Print help'
 complete -c radpolicy-page -s f -r -F -d 'Request file'
+complete -c radpolicy-page -l record -x -d 'Name of the request in a log or a file of several'
+complete -c radpolicy-page -l server -x -d 'Virtual server of a request out of a tunnel'
 complete -c radpolicy-page -l hex -d 'The request is a packet in hexadecimal digits'
 complete -c radpolicy-page -l acct -d 'The request lines are an Accounting-Request'
 complete -c radpolicy-page -s i -x -d 'Identifier of the packet'
@@ -14,3 +16,4 @@ complete -c radpolicy-page -s o -r -F -d 'File of the page'
 complete -c radpolicy-page -l force -d 'Replace a file of your own'
 complete -c radpolicy-page -l show-secrets -d 'Show passwords and keys'
 complete -c radpolicy-page -l hide -x -d 'Attribute whose values are hidden too'
+complete -c radpolicy-page -s D -x -a '(__fish_complete_directories)' -d 'Folder of the dictionaries'

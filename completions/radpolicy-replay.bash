@@ -4,8 +4,8 @@ _radpolicy_replay() {
     local IFS=$' \t\n'
     COMPREPLY=()
     if [[ $word == -* ]]; then
-        COMPREPLY=($(compgen -W '--policy --against --ordered --ignore --all --show-replies --strict --expect --tap
-            --json --to-hex -S --clients --no-secret --format --zone --hide --show-secrets --help' -- "$word"))
+        COMPREPLY=($(compgen -W '--policy --against --ordered --ignore --all --show-replies --show --only --strict
+            --expect --tap --json --to-hex -S --clients --no-secret --format --server --zone --hide --show-secrets -D --help' -- "$word"))
     else
         # bash takes the `=` of an option for a word of its own.
         [[ $word == = ]] && word=

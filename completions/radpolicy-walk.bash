@@ -4,8 +4,8 @@ _radpolicy_walk() {
     local IFS=$' \t\n'
     COMPREPLY=()
     if [[ $word == -* ]]; then
-        COMPREPLY=($(compgen -W '-f --record --policy --hex -S --acct --reply --control --zone --script --show-secrets --hide
-            --help' -- "$word"))
+        COMPREPLY=($(compgen -W '-f --record --server --policy --hex -S --acct --reply --control --zone --script --show-secrets --hide
+            -D --help' -- "$word"))
     else
         # bash takes the `=` of an option for a word of its own.
         [[ $word == = ]] && word=

@@ -1,7 +1,8 @@
 # Completes the words of radpolicy-walk in fish.
 complete -c radpolicy-walk -s h -l help -f -d 'Print help'
 complete -c radpolicy-walk -s f -r -F -d 'Request file'
-complete -c radpolicy-walk -l record -x -d 'Number of the request in a log or a file of several'
+complete -c radpolicy-walk -l record -x -d 'Name of the request in a log or a file of several'
+complete -c radpolicy-walk -l server -x -d 'Virtual server of a request out of a tunnel'
 complete -c radpolicy-walk -l policy -r -F -d 'Policy file'
 complete -c radpolicy-walk -l hex -d 'The request is a packet in hexadecimal digits'
 complete -c radpolicy-walk -s S -r -F -d 'File with the shared secret'
@@ -12,3 +13,4 @@ complete -c radpolicy-walk -l zone -x -d 'What a zone other than UTC stands for 
 complete -c radpolicy-walk -l script -r -F -d 'File of commands'
 complete -c radpolicy-walk -l show-secrets -d 'Show passwords and keys'
 complete -c radpolicy-walk -l hide -x -d 'Attribute whose values are hidden too'
+complete -c radpolicy-walk -s D -x -a '(__fish_complete_directories)' -d 'Folder of the dictionaries'

@@ -3,19 +3,23 @@ import json
 import re
 from collections import Counter
 
-COUNT = re.compile(r"(\d+) ([a-z]+)")
+COUNT = re.compile(r"(\d+) ([a-z]+(?: [a-z]+)*)")
 LINE = re.compile(r"  (\d+) by (.*?):(\d+): (.*)\n")
 MEMBERS = ("records", "policy", "line", "text")
+# Names of records are told of a difference.
+FIRST = 3
 SUMMARY = re.compile(
-    r"(\d+ [a-z]+(?:, \d+ [a-z]+)*\n)((?:  \d+ by .*\n)*)(no secret: .*\n)?(?:\d+ records a second\n)?"
+    r"(\d+ [a-z]+(?:, \d+ [a-z ]+)*\n)(?:  \d+ records: .*\n)*((?:  \d+ by .*\n)*)(no secret: .*\n)?"
+    r"(?:\d+ records a second\n)?"
 )
 
 
 class Sums:
-    """Counts, of records and by lines of policies, and whether no secret was known. The rates of parts are left out."""
+    """Counts, of records, by lines of policies and, of JSON, by differences, and whether no secret was known. The rates
+    of parts are left out, and so are differences in words, of which a part does not tell those that it has once."""
 
     def __init__(self):
-        self.counts, self.lines, self.policies = Counter(), Counter(), []
+        self.counts, self.lines, self.policies, self.differences = Counter(), Counter(), [], {}
         self.no_secret, self.is_json = None, False
 
     def add(self, said):
@@ -29,6 +33,11 @@ class Sums:
         policies = list(dict.fromkeys(policy for _, policy, _, _ in lines))
         if len(policies) > 1 or not set(policies) <= set(self.policies):
             self.policies = policies + [policy for policy in self.policies if policy not in policies]
+
+    def add_differences(self, differences):
+        for each in differences:
+            records, first = self.differences.get(each["difference"], (0, []))
+            self.differences[each["difference"]] = records + each["records"], (first + each["first"])[:FIRST]
 
     def add_text(self, said):
         if not (summary := SUMMARY.fullmatch(said)):
@@ -46,6 +55,7 @@ class Sums:
             return False
         self.is_json = True
         self.add_lines([tuple(line[member] for member in MEMBERS) for line in summary.pop("lines")])
+        self.add_differences(summary.pop("differences"))
         self.no_secret = summary.pop("no_secret", self.no_secret)
         summary.pop("records_per_second", None)
         self.counts.update(summary)
@@ -56,6 +66,10 @@ class Sums:
         lines = [(self.lines[place], *place) for place in places]
         if self.is_json:
             said = dict(self.counts, **({"no_secret": True} if self.no_secret else {}))
+            told = sorted(self.differences.items(), key=lambda each: -each[1][0])
+            said["differences"] = [
+                {"records": records, "difference": text, "first": first} for text, (records, first) in told
+            ]
             said["lines"] = [dict(zip(MEMBERS, line)) for line in lines]
             return json.dumps(said, separators=(",", ":"), ensure_ascii=False) + "\n"
         counts = ", ".join(f"{number} {name}" for name, number in self.counts.items()) + "\n"

@@ -1,5 +1,6 @@
-"""What each program of `drive` prints of one run, to the octet, but for `lookups`, whose run the gate makes; and words
-that name none. As the gate runs a program, so is this one run as both compilers make it."""
+"""What each program of `drive` prints of the runs here, to the octet, but for `lookups`, whose run the gate makes, and
+`rows`, whose questions are those of tests/rows; and words that name none. As the gate runs a program, so is this one
+run as both compilers make it."""
 from pathlib import Path
 from typing import List
 
@@ -12,7 +13,7 @@ REFUSED = Ended(1, b"", b"Error: Kind(InvalidInput)\n", 0.0, 0)
 # Words of which the first names no program, and words that a program takes none of.
 WRONG: List[List[str]] = [
     *([], [""], ["store"], ["Stores", "slots"], ["stores"], ["stores", "pairs"], ["stores", "slots", "list"]),
-    *(["walks", "slots"], ["lookups", ""], ["runs", *["x"] * 7], ["packets", "2", "x", "", ""]),
+    *(["walks", "slots"], ["lookups", ""], ["runs", *["x"] * 7], ["packets", "2", "x", "", ""], ["rows", "x"]),
 ]
 
 
@@ -31,12 +32,13 @@ def faults_of(ended: Ended, wanted: Ended) -> List[str]:
 
 
 def check_run(report: Report, program: Path, folder: Path) -> None:
-    """The run of a folder: its words, one on a line, its input, what it has to print, and the files that it reads."""
-    words = (folder / "words").read_text().splitlines()
+    """The run of a folder: its words, one on a line, in which `\\n` is a line feed, its input, what it has to print,
+    and the files that it reads."""
+    words = [word.replace("\\n", "\n") for word in (folder / "words").read_text().splitlines()]
     given = folder / "input"
     ended = run([program, *words], folder, given.read_bytes() if given.is_file() else b"")
     wanted = Ended(0, (folder / "output").read_bytes(), b"", 0.0, 0)
-    report.check(f"{program.name}: {words[0]}", faults_of(ended, wanted))
+    report.check(f"{program.name}: {folder.name}", faults_of(ended, wanted))
 
 
 def check_build(report: Report, program: Path) -> None:

@@ -1,7 +1,7 @@
 """The help after a fault's line: each folder here has files, a command, and in `wanted` the texts that a terminal has to
 show. In a pipe the fault's line stays alone, and without NO_COLOR a terminal shows places and carets in bold. The
-command's first word may be the name of a program beside `radpolicy`. The folders of `warned/` have policies that are
-read, and in `wanted` all that a terminal shows of their warnings."""
+command's first word may be the name of a program beside `radpolicy`, which in a pipe has to print what is in `piped`.
+The folders of `warned/` have policies that are read, and in `wanted` all that a terminal shows of their warnings."""
 import glob
 import os
 import pty
@@ -91,10 +91,10 @@ def is_shown(text: str, shown: str) -> bool:
     return text in (shown.splitlines() if text.strip() == "^" else shown)
 
 
-def fault_line(wanted: Sequence[str]) -> bytes:
-    """The fault's line, after one that names the old policy if the fault is there."""
-    count = 1 if wanted[0].startswith("radpolicy: ") else 2
-    return "".join(line + "\n" for line in wanted[:count]).encode()
+def alone(folder: Path, first: bytes) -> bytes:
+    """What a pipe has to show: the fault's line, or of a program beside `radpolicy` one that has the help too."""
+    piped = folder / "piped"
+    return piped.read_bytes() if piped.exists() else first
 
 
 def in_colour(errors: bytes) -> bytes:
@@ -106,11 +106,12 @@ def faults_of(subject: Subject, folder: Path) -> List[str]:
     """What is wrong with the help of a folder's command."""
     program, words = program_of(subject, folder)
     wanted = (folder / "wanted").read_text().splitlines()
-    line = fault_line(wanted)
+    first = f"{wanted[0]}\n".encode()
+    line = alone(folder, first)
     status, output, errors = on_terminal(program, folder, words, None, "1")
     shown = errors.decode("utf-8", "replace")
     wrong = [f"not shown: {text!r} in {shown!r}" for text in wanted if not is_shown(text, shown)]
-    if output or not errors.startswith(line):
+    if output or not errors.startswith(first):
         wrong.append(f"output {output!r}, errors {errors!r}")
     for run, wish, no_color, lines in [
             (in_pipe, "always", None, errors), (in_pipe, None, None, line), (in_pipe, "never", None, line),

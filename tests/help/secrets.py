@@ -201,7 +201,7 @@ def check_hide(subject: Subject, report: Report, root: Path) -> None:
     wrong = [] if b"not for all" in plain and b"not for all" not in found else [f"{plain!r}, {found!r}"]
     refused = ended(subject.driver("radpolicy_lint"), folder, ["--policy", "policy", "--hide", "User-\033Nam"])
     first = refused.stderr.split(b"\n")[0]
-    if (refused.returncode, refused.stdout) != (2, b"") or not first.startswith(b"radpolicy: E02 User-\\033Nam: "):
+    if (refused.returncode, refused.stdout) != (2, b"") or not first.startswith(b"radpolicy-lint: E02 User-\\033Nam: "):
         wrong.append(f"{refused!r}")
     report.check("lint with --hide", wrong)
 

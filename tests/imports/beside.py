@@ -88,7 +88,7 @@ DATE = "%b %d %Y %H:%M:%S UTC"
 # What a server shows of an attribute with tags that was given none.
 NO_TAG = ":-128"
 # The lines of a report that are about a section's own text.
-TELLS = re.compile(r"^(?:\S*/)?parts/|: set by no line of the policy: |^[1-9]\d* of the kept have a value that is")
+TELLS = re.compile(r"^(?:\S*/)?parts/|: set by no line of the policy: |^\d+ of the kept depends? on a value")
 # An attribute that the report tells to give a value, one that a line of a policy has, and where that line comes from.
 GIVEN = re.compile(r": set by no line of the policy: &control:(\S+) ")
 CONTROL = re.compile(r"control:([A-Za-z0-9-]+)")

@@ -18,7 +18,7 @@ SECTIONS = (
     "authorize", "authenticate", "preacct", "accounting", "session", "post-auth", "post-auth/REJECT", "pre-proxy",
     "post-proxy",
 )
-COUNTS = re.compile(rb"^(\d+) of (\d+) statements kept, (\d+) module calls are comments$", re.M)
+COUNTS = re.compile(rb"^(\d+) of (\d+) statements kept, (\d+) module calls? (?:are comments|is a comment)$", re.M)
 NAMED = re.compile(r"^([a-z0-9_.\-]+)\s*\{", re.M | re.I)
 PROFILE = b"# profile: wider"
 # The line by which the program knows its files.

@@ -11,7 +11,6 @@ these write.
     reject  # main:2
     >> report
     1 of 1 statements kept, 0 module calls are comments
-    0 of the kept have a value that is given
 
 They are written as all worked cases are (`common/worked.py`), but that `policy` is the standard output and `report` the
 standard error, and of a file that the program writes its own line is no part."""

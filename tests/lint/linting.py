@@ -9,7 +9,7 @@ from typing import Dict, List, Sequence, Tuple
 from common.report import Report
 from common.subject import Subject, new_folder, on_all
 from help.helping import environment, words_of
-from lint import answering, written
+from lint import answering, warned, written
 
 HERE = Path(__file__).parent
 DEADLINE = 120
@@ -109,6 +109,7 @@ def check_answers(subject: Subject, report: Report) -> None:
 def check(subject: Subject, report: Report) -> None:
     check_paths(subject, report)
     check_answers(subject, report)
+    warned.check(subject, report)
     answering.check(subject, report)
     written.check(subject, report)
     program = subject.driver("radpolicy_lint")

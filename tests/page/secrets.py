@@ -117,7 +117,7 @@ def check_hide(subject: Subject, report: Report, root: Path) -> None:
     wrong += [] if copies == 2 and others == 1 else [f"it has {copies} copies, and {others} that are none"]
     refused = page_of(subject, folder, [*words, "--hide", "User-\033Nam"])
     first = refused.stderr.split(b"\n")[0]
-    wrong += [] if refused.returncode == 2 and first.startswith(b"radpolicy: E02 User-\\033Nam: ") else [f"{first!r}"]
+    wrong += [] if refused.returncode == 2 and first.startswith(b"radpolicy-page: E02 User-\\033Nam: ") else [f"{first!r}"]
     report.check("pages with --hide", wrong)
 
 

@@ -89,8 +89,8 @@ READ = {
     "PMIP6-Home-IPv4-HoA = 0x00080a": "PMIP6-Home-IPv4-HoA = 0x00080a",
     "PMIP6-Home-IPv4-HoA = 0x00080a010203": "PMIP6-Home-IPv4-HoA = 10.0.0.0/8",
 }
-FIRST_LINES = {"#profile: wider": True, " #\tProfile:  WIDER\t": True, "#profile:\twider": True,
-               "#profile:wider": False, "# profile : wider": False}
+FIRST_LINES = {"#profile: wider": True, "# VLANs\n\n#profile: wider": True, " #\tProfile:  WIDER\t": True,
+               "#profile:\twider": True, "#profile:wider": False, "# profile : wider": False}
 # What a server takes, and the fault with which it is refused here.
 TAKEN: Dict[str, str] = {
     put("Framed-IPv6-Prefix := 2001:db8::"): "E30",

@@ -124,7 +124,7 @@ def check_streams(place: Place, report: Report) -> None:
     os.close(reader)
     ended = run(place.command(), place.folder, b"".join(text), output=writer)
     os.close(writer)
-    wrong = [] if (ended.status, ended.errors) == (3, b"radpolicy: E07: write fault\n") else [f"{ended}"]
+    wrong = [] if (ended.status, ended.errors) == (3, b"radpolicy-replay: E07: write fault\n") else [f"{ended}"]
     report.check("replay: a reader that went away", wrong)
 
 
@@ -137,7 +137,7 @@ def check_closed(place: Place, report: Report) -> None:
         front = process.stdout.read(len(whole) // 2)
         process.stdout.close()
         errors = process.stderr.read()
-    is_right = (process.returncode, errors) == (3, b"radpolicy: E07: write fault\n") and whole.startswith(front)
+    is_right = (process.returncode, errors) == (3, b"radpolicy-replay: E07: write fault\n") and whole.startswith(front)
     is_right = is_right and len(front) == len(whole) // 2
     wrong = [] if is_right else [f"{process.returncode}: {errors!r}, {len(front)} octets"]
     report.check("replay: a reader that goes away in the middle", wrong)

@@ -13,7 +13,7 @@ RECORDS = 400
 NAMES = {2: b"Access-Accept", 3: b"Access-Reject", 5: b"Accounting-Response"}
 CLASS, PROXY_STATE = packets.plain_attribute(25, b"\x01"), packets.plain_attribute(33, b"\xaa")
 COUNTS = re.compile(
-    rb"(\d+) read, (\d+) same, (\d+) different, (\d+) unanswered, (\d+) challenged, (\d+) refused\n(?:  \d+ by .*\n)*"
+    rb"(\d+) read, (\d+) same, (\d+) different, (\d+) unanswered, (\d+) challenged, (\d+) refused\n(?:  \d+ (?:by|records:) .*\n)*"
 )
 HIDDEN = b"update reply { Class := 0x01 }\nupdate reply { Hidden-Octets := 0x0102 }\n"
 KINDS = ["same", "proxied", "other", "alone", "challenge", "digest", "identifier"]

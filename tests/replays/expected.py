@@ -57,5 +57,6 @@ def check(subject: Subject, report: Report) -> None:
         for name, octets in earlier.items():
             report.check(f"replay: expected is {name}", faults(place, text, whole, octets))
         ended = place.replay(text, ["--expect", "missing"])
-        is_right = (ended.status, ended.output, ended.errors) == (3, b"", b"radpolicy: E04 missing: file not readable\n")
+        told = b"radpolicy-replay: E04 missing: file not readable: there is no such file, "
+        is_right = (ended.status, ended.output) == (3, b"") and ended.errors.startswith(told)
         report.check("replay: what is expected is missing", [] if is_right else [f"{ended}"])

@@ -51,13 +51,20 @@ def text_of(line: bytes) -> bytes:
     return "".join(lines).encode()
 
 
+def names_of(equal: Dict[str, Any]) -> str:
+    """The records that are named of those with a difference."""
+    return ", ".join([*equal["first"], *([".."] if equal["records"] > len(equal["first"]) else [])])
+
+
 def faults_of_summary(plain: bytes, said: bytes) -> List[str]:
     """What is wrong with the counts of an object, beside those in words."""
     first, *lines = plain.decode().splitlines()
     wanted = {name: int(number) for number, name in COUNT.findall(first)}
     object = json.loads(said)
+    equal = [each for each in object.pop("differences") if each["records"] > 1]
+    found = [f"  {each['records']} records: {each['difference']} ({names_of(each)})" for each in equal]
     by_lines = object.pop("lines")
-    found = [f"  {each['records']} by {each['policy']}:{each['line']}: {each['text']}" for each in by_lines]
+    found += [f"  {each['records']} by {each['policy']}:{each['line']}: {each['text']}" for each in by_lines]
     return [] if (object, found) == (wanted, lines) else [f"{said!r}, not {plain!r}"]
 
 

@@ -50,13 +50,15 @@ FORMS: List[List[str]] = [
 
 @dataclass
 class Case:
-    """Two policies, the same requests as lines of packets and as attribute lines, and the secrets in all of them."""
+    """Two policies, the same requests as lines of packets and as attribute lines, and the secrets in all of them; and
+    the names of the attributes that have them."""
 
     new: str = ""
     old: str = ""
     lines: bytes = b""
     texts: bytes = b""
     hidden: List[bytes] = field(default_factory=list)
+    names: List[str] = field(default_factory=list)
 
 
 def is_sent(attribute: secrets.Attribute) -> bool:
@@ -113,6 +115,7 @@ def new_case(number: int) -> Case:
     case.new, case.old = (policy_of(rng, case, attributes) for _ in range(2))
     case.lines = b"".join(record(rng, case, attributes, at) for at in range(RECORDS))
     case.texts = b"".join(text_record(rng, case, attributes) for _ in range(RECORDS))
+    case.names = [attribute.name for attribute in attributes]
     return case
 
 
@@ -127,7 +130,8 @@ class Drawn:
 
     def replay(self, options: Sequence[str]) -> Ended:
         stdin = self.case.lines if "hex" in options else self.case.texts
-        return run([self.program, "--policy", "new", *options, "dictionary"], self.folder, stdin)
+        shown = [word for name in self.case.names for word in ("--show", name)]
+        return run([self.program, "--policy", "new", *shown, *options, "dictionary"], self.folder, stdin)
 
 
 def is_answered(ended: Ended) -> bool:
@@ -201,6 +205,8 @@ ROWS: List[Tuple[str, bytes, bytes, List[str], bytes]] = [
     ("a copied secret is in no reply", COPY, b"ok\n", [], b"1 ok (secret)\n"),
     ("nor in one as JSON", COPY, b"ok\n", ["--json"], b'"reply":"(secret)"'),
     ("nor in a test", COPY, b"ok\n", ["--tap"], b"# 1 ok (secret)\n"),
+    ("what --show prints is hidden", OTHER, b"ok\n", ["--show", "Hidden-Text"], b"1 [Hidden-Text = (hidden)] ok "),
+    ("and as JSON", OTHER, b"ok\n", ["--show", "Hidden-Text", "--json"], b'"request":["Hidden-Text = (hidden)"]'),
     ("it is no difference's", COPY, b"ok\n", ["--against", "old"], b"  + Reply-Message = (hidden)\n"),
     ("nor one as JSON", COPY, b"ok\n", ["--against", "old", "--json"], b'["+ Reply-Message = (hidden)"]'),
     ("the old policy's copy is hidden", b"ok\n", COPY, ["--against", "old"], b"  - Reply-Message = (hidden)\n"),
@@ -220,9 +226,10 @@ ROWS: List[Tuple[str, bytes, bytes, List[str], bytes]] = [
     ("and what a line gives to it", OTHER, b"ok\n", ["--against", "old", "--hide", "Reply-Message"],
      b"  1 by new:1: update reply { Reply-Message := (hidden) }\n"),
     ("a name to hide that is unknown", OTHER, b"ok\n", ["--hide", "Reply-Mesage"],
-     b"radpolicy: E02 Reply-Mesage: option value\n"),
+     b"radpolicy-replay: E02 Reply-Mesage: option value: no attribute has the name Reply-Mesage: write Reply-Message\n"),
     ("a faulty old policy", b"ok\n", b"ok\nupdate reply {\n\tNosuch := 1\n}\n", ["--against", "old"],
-     b"radpolicy: E32 old:3: unknown attribute\n"),
+     b"radpolicy-replay: old:3:2: E32 no attribute has the name Nosuch: give the dictionary file that has its ATTRIBUTE"
+     b" line, and include it\n"),
 ]
 
 

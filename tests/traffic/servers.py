@@ -180,7 +180,7 @@ def check_walk(subject: Subject, report: Report, folder: Path, log: Path) -> Non
     """The debugger walks over a request of the log."""
     (folder / "policy").write_text('if (&User-Name == "eve") { reject }\n')
     dictionaries = sorted((subject.root / "dictionaries").glob("dictionary*"))
-    words = ["-f", log, "--record", "2", "--policy", "policy"]
+    words = ["-f", log, "--record", "(1)", "--policy", "policy"]
     ended = run([subject.driver("radpolicy_walk"), *words, *dictionaries], folder, b"end\nshow request\n")
     wanted = b'request\n  User-Name = "eve"\n  NAS-Port = 2\n'
     is_wanted = ended.status == 0 and wanted in ended.output and b" reject\n" in ended.output

@@ -115,7 +115,7 @@ def check_hide(subject: Subject, report: Report, root: Path) -> None:
     wrong += [f"{it!r} is not shown" for it in wanted if it not in ended.output]
     refused = walk(subject, folder, [*words, "--hide", "User-\033Nam"])
     first = refused.errors.split(b"\n")[0]
-    wrong += [] if refused.status == 2 and first.startswith(b"radpolicy: E02 User-\\033Nam: ") else [f"{first!r}"]
+    wrong += [] if refused.status == 2 and first.startswith(b"radpolicy-walk: E02 User-\\033Nam: ") else [f"{first!r}"]
     report.check("walks with --hide", wrong)
 
 

@@ -11,8 +11,8 @@ use avp_lists::{List, Store};
 use avp_unlang::{Code, PolicyFault, PolicyKind};
 use radpolicy::{
     Command, Fault, Job, OwnedPolicy, PreparedPolicy, RequestHead, RequestKind, Runner, Secret,
-    Start, WriteOutput, answer, help_text, option_text, print_fault, read_input, read_words,
-    status,
+    Start, WriteOutput, answer, help_text, option_text, print_fault, print_named_fault, read_input,
+    read_words, status,
 };
 use std::alloc::Global;
 use std::process::Abort;
@@ -61,6 +61,15 @@ fn prints_a_fault(rt: &impl Abort, alloc: Global) {
     let printed = print_fault(&Fault::Usage, &files, &mut WriteOutput::new(&mut line));
     assert!(rt; printed);
     assert_eq!(rt; line.as_slice(), b"radpolicy: E01: usage\n".as_slice());
+}
+
+// Example: print_named_fault
+fn prints_a_fault_under_a_name(rt: &impl Abort, alloc: Global) {
+    let files = FileSet::from_vec(Vec::new(alloc));
+    let mut line = Vec::new(alloc);
+    let mut out = WriteOutput::new(&mut line);
+    assert!(rt; print_named_fault(b"radpolicy-walk", &Fault::Usage, &files, &mut out));
+    assert_eq!(rt; line.as_slice(), b"radpolicy-walk: E01: usage\n".as_slice());
 }
 
 // Example: status
@@ -218,6 +227,7 @@ fn texts(rt: HostRuntime) -> Result<(), Fail> {
     says_which_option(&rt, rt.alloc())?;
     helps(&rt, rt.alloc())?;
     prints_a_fault(&rt, rt.alloc());
+    prints_a_fault_under_a_name(&rt, rt.alloc());
     gives_statuses(&rt);
     reads_an_input(&rt, rt.alloc())
 }

@@ -1,5 +1,5 @@
-//! Tests of lists, dictionaries, forms of values and patterns, and in [`samples`] what the tests of other crates share
-//! with them.
+//! Tests of lists, and of dictionaries, forms of values and patterns what the rows of `tests/rows` do not ask; in
+//! [`samples`] what the tests of other crates share with them.
 #![tactic(auto)]
 
 #[cfg(test)]

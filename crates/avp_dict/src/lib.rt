@@ -30,7 +30,7 @@ pub use file::words::{first_part, is_blank, same_name, words_between_blanks};
 pub use forms::Form;
 pub use line_numbers::line_after;
 pub use request::faults::{LineFault, LineKind};
-pub use request::lines::{next_line, read_pairs};
+pub use request::lines::{is_idle_line, next_line, read_pairs};
 pub use request::readers::PairReader;
 pub use value::faults::ValueFault;
 pub use value::octets::{MAX_HIDDEN_OCTETS, ends_in_nul, is_hideable};

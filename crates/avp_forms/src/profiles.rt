@@ -4,14 +4,15 @@ ghost use Rattle.std.specs.Prelude.{◌≡◌, ◌∷◌, [], MatchOption};
 ghost use Rattle.std.specs.Option.{option_copied};
 ghost use Rattle.avp_forms.specs.Profiles.{comment_of, is_wider_comment, is_wider_line, profile_of, words_between};
 
-use avp_dict::{first_part, is_blank, next_line, same_name};
+use avp_dict::{first_part, is_blank, is_idle_line, next_line, same_name};
 
 /// What a policy's or a request's text may hold.
 #[derive(Clone, Copy, Debug, PartialEq, Eq)]
 pub enum Profile {
     /// What every text may hold.
     Plain,
-    /// Tags, and the texts of values of forms, as well: where the first line is the comment `# profile: wider`.
+    /// Tags, and the texts of values of forms, as well: where the comment
+    /// `# profile: wider` stands before the first statement or pair.
     Wider,
 }
 
@@ -75,11 +76,11 @@ fn is_wider_line(line: &[u8]) -> bool
     }
 }
 
-/// The profile that a text is written in, as its first line says: [`Wider`](Profile::Wider) where that is a comment of
-/// the words `profile:` and `wider`, letters in either case, with blanks as one likes.
+/// The profile that a text is written in: [`Wider`](Profile::Wider) where a comment of the words `profile:` and `wider`
+/// stands alone on a line before the first statement or pair, letters in either case, with blanks as one likes.
 ///
 /// ```rust
-/// let wider = profile_of(b"# profile: wider\nok\n");
+/// let wider = profile_of(b"# VLANs of the campus\n\n# profile: wider\nok\n");
 /// assert_eq!(rt; wider, Profile::Wider);
 /// let plain = profile_of(b"ok\n# profile: wider\n");
 /// assert_eq!(rt; plain, Profile::Plain);
@@ -88,8 +89,15 @@ fn is_wider_line(line: &[u8]) -> bool
 pub fn profile_of(text: &[u8]) -> Profile
     ensures { result ≡ profile_of text.now }
 {
-    match next_line(text) {
-        Some((line, _)) if is_wider_line(line) => Profile::Wider,
-        _ => Profile::Plain,
+    let mut rest = text;
+    while let Some((line, after)) = next_line(rest) {
+        if is_wider_line(line) {
+            return Profile::Wider;
+        }
+        if !is_idle_line(line) {
+            return Profile::Plain;
+        }
+        rest = after;
     }
+    Profile::Plain
 }

@@ -18,7 +18,7 @@ use Rattle.avp_unlang.specs.Between.{Follows}
 abbrev pub max_nested : ℕ
 max_nested = 64
 
--- statement after statement up to the end of the text, which says by its first line how much it may hold
+-- statement after statement up to the end of the text, which says by a comment before them how much it may hold
 abbrev pub SpellsPolicy : Dictionary → List ℕ → List Statement → Type 0
 SpellsPolicy dictionary text statements =
     (end : Place) × (rest : Place)

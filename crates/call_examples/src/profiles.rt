@@ -18,7 +18,7 @@ ATTRIBUTE Tunnel-Private-Group-Id 81 string has_tag
 
 // Example: profile_of
 fn finds_profiles(rt: &impl Abort) {
-    let wider = profile_of(b"# profile: wider\nok\n");
+    let wider = profile_of(b"# VLANs of the campus\n\n# profile: wider\nok\n");
     assert_eq!(rt; wider, Profile::Wider);
     let plain = profile_of(b"ok\n# profile: wider\n");
     assert_eq!(rt; plain, Profile::Plain);

@@ -7,6 +7,7 @@ mod forms;
 mod inputs;
 mod lookups;
 mod packets;
+mod rows;
 mod runs;
 mod stores;
 mod traffic;
@@ -23,6 +24,7 @@ fn main(rt: HostRuntime) -> io::Result<()> {
         "stores" => stores::drive(&rt, words),
         "walks" => walks::drive(&rt, words),
         "lookups" => lookups::drive(&rt, words),
+        "rows" if words.is_empty() => rows::drive(&rt),
         "runs" => runs::drive(&rt, words),
         "traffic" => traffic::drive(&rt),
         "configuration" => configuration::drive(&rt, words),

@@ -19,9 +19,9 @@ use Rattle.avp_unlang.specs.declared.tree.Cond.TheFolds.{fold-roll-Cond, ind-Con
 use Rattle.avp_unlang.specs.declared.tree.Cond.TheOpen.{Cond-F, Any, All, Not, Last, Present, PresentSelected, Compare, CompareMeant, CompareTexts, Match, MatchText, MatchGroup, Captured}
 use Rattle.avp_unlang.specs.declared.tree.Cond.TheViews.{roll-Cond}
 use Rattle.policy_warnings.specs.Absences.{all_of, always, any_of, asked, both, cond_absence, either, negated, said_of, silent, warns_of_absence}
-use Rattle.policy_warnings.specs.Answers.{Answer, answer_both, answer_either, is_true}
+use Rattle.policy_warnings.specs.Answers.{Answer, answer_both, answer_either, is_false, is_true}
 use Rattle.policy_warnings.specs.Mentions.{all_parts, comparison_mentions, cond_mentions, implies, matching_mentions, meant_comparison_mentions, mentions, selected, side_mentions, whole}
-use Rattle.policy_warnings.specs.ServerEvaluations.{Answered, Answering, CapturesAlike, all_answered, any_answered, cond_answered, is_false, server_evaluated}
+use Rattle.policy_warnings.specs.ServerEvaluations.{Answered, Answering, CapturesAlike, all_answered, any_answered, cond_answered, server_evaluated}
 use Rattle.policy_warnings.specs.declared.absences.Absence.{Absence}
 use Rattle.policy_warnings.specs.declared.mentions.Mention.{Mention}
 use Rattle.policy_warnings.proofs.Agreeing.{agreeing, and_assoc, and_yes, both_assoc, both_yes, either_assoc, either_no, found_first, matched_looks, matching_there, meant_there, met_there, or_assoc, or_no, said_same, silent_of, texts_there, told_there}

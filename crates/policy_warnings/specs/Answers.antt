@@ -12,24 +12,9 @@ use Rattle.avp_unlang.specs.declared.codes.Code.{Code}
 use Rattle.avp_unlang.specs.declared.tree.Cond.{Cond}
 use Rattle.avp_unlang.specs.declared.tree.Cond.TheFolds.{fold-Cond}
 use Rattle.avp_unlang.specs.declared.tree.Cond.TheOpen.{Cond-F, Any, All, Not, Last, Present, PresentSelected, Compare, CompareMeant, CompareTexts, Match, MatchText, MatchGroup, Captured}
+pub use Rattle.server_unlang.specs.Answers.{Answer, answer_both, answer_either, is_false, is_true}
 use Rattle.policy_warnings.specs.Mentions.{comparison_mentions, is_there, matching_mentions, meant_comparison_mentions, side_mentions}
 use Rattle.policy_warnings.specs.declared.mentions.Mention.{Mention}
-
--- true or false; nothing where a comparison with an absent attribute was met, which ends the whole condition
-abbrev pub Answer : Type 0
-Answer = Option Bool
-
--- `&&`: the next one is asked where the first is true
-abbrev pub answer_both : Answer → Answer → Answer
-answer_both None next = None
-answer_both (Some false) next = Some false
-answer_both (Some true) next = next
-
--- `||`: the next one is asked where the first is false
-abbrev pub answer_either : Answer → Answer → Answer
-answer_either None next = None
-answer_either (Some true) next = Some true
-answer_either (Some false) next = next
 
 -- what a state and a code are answered
 abbrev pub Asked : Type 0
@@ -75,11 +60,6 @@ server_answer = fold-Cond Asked (cond_answer_with nothing_printed)
 -- of a condition, by the dictionary by which values are printed
 unfoldable pub server_answer_by : Dictionary → Cond → Asked
 server_answer_by dictionary = fold-Cond Asked (cond_answer_with (printed_by dictionary))
-
--- no answer counts as false
-abbrev pub is_true : Answer → Bool
-is_true None = false
-is_true (Some value) = value
 
 -- whether a server takes the branch of a condition that compares with no pattern and no texts
 abbrev pub server_truth : Cond → State → Code → Bool

@@ -16,7 +16,7 @@ use Rattle.avp_unlang.specs.declared.codes.Code.{Code}
 use Rattle.avp_unlang.specs.declared.tree.Cond.{Cond}
 use Rattle.avp_unlang.specs.declared.tree.Cond.TheFolds.{fold-Cond}
 use Rattle.avp_unlang.specs.declared.tree.Cond.TheOpen.{Cond-F, Any, All, Not, Last, Present, PresentSelected, Compare, CompareMeant, CompareTexts, Match, MatchText, MatchGroup, Captured}
-use Rattle.policy_warnings.specs.Answers.{Answer, answer_compared, is_true}
+use Rattle.policy_warnings.specs.Answers.{Answer, answer_compared, is_false, is_true}
 use Rattle.policy_warnings.specs.Mentions.{comparison_mentions, matching_mentions, meant_comparison_mentions, side_mentions}
 
 -- the answer, and what was captured after it
@@ -30,11 +30,6 @@ Answering = State → Code → Captures → Answered
 -- an answer, with what was captured before it
 abbrev pub answered : Answer → Captures → Answered
 answered answer captures = record { answer = answer; captures = captures }
-
--- no answer is not false either
-abbrev pub is_false : Answer → Bool
-is_false None = false
-is_false (Some value) = not value
 
 -- conditions with `||` between them, up to the first that is not false
 abbrev pub any_answered : List Answering → Answering

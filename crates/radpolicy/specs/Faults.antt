@@ -150,11 +150,19 @@ place_text files f = if is_memory f then [] else place_of files f
 abbrev pub fault_code_text : ℕ → List ℕ
 fault_code_text n = 69 ∷ (48 + n / 10) ∷ (48 + n % 10) ∷ []
 
--- the line of a fault
-unfoldable pub fault_line : List NamedFile → Fault → List ℕ
-fault_line files f =
-    codes "radpolicy: " ++ fault_code_text (fault_number f) ++ place_text files f ++ codes ": "
+-- what the line of a fault has after a program's name
+unfoldable pub fault_told : List NamedFile → Fault → List ℕ
+fault_told files f =
+    codes ": " ++ fault_code_text (fault_number f) ++ place_text files f ++ codes ": "
     ++ fault_text f ++ codes "\n"
+
+-- the line of a fault, under the name of a program
+abbrev pub named_fault_line : List ℕ → List NamedFile → Fault → List ℕ
+named_fault_line program files f = program ++ fault_told files f
+
+-- under that of `radpolicy`
+unfoldable pub fault_line : List NamedFile → Fault → List ℕ
+fault_line files f = named_fault_line (codes "radpolicy") files f
 
 -- the exit status for a fault
 abbrev pub status_of : Fault → ℕ

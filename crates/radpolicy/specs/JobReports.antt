@@ -62,7 +62,7 @@ IsReceived job opened request = request_for opened.dictionary opened.secret job 
 abbrev pub policy_of : Job → List ℕ
 policy_of job = unwrap_or job.policy []
 
--- the profile that the policy's first line asks for
+-- the profile that the comments before the policy's first statement ask for
 abbrev pub profile_for : Job → Profile
 profile_for job = profile_of (policy_of job)
 

@@ -24,7 +24,7 @@ mod starts;
 
 pub use answers::answer;
 pub use command_line::{help_text, read_words, word_fault};
-pub use fault_lines::print_fault;
+pub use fault_lines::{print_fault, print_named_fault};
 pub use faults::{Fault, status};
 pub use heads::{RequestHead, RequestKind};
 pub use inputs::{MAX_INPUT_OCTETS, read_input, read_input_with_room};
@@ -35,6 +35,7 @@ pub use prepared::{OwnedPolicy, PreparedPolicy};
 pub use refused_words::option_text;
 pub use reports::texts::code_text;
 pub use reports::walks::push_label;
+pub use requests::hex_octets;
 pub use run_outcomes::{Reply, RunOutcome};
 pub use runners::Runner;
 pub use secrets::Secret;

@@ -116,7 +116,7 @@ impl<'a> PreparedPolicy<'a> {
         self.dictionary
     }
 
-    /// The profile that the policy's first line asks for. Lists are printed by it.
+    /// The profile that the comments before the policy's first statement ask for. Lists are printed by it.
     pub fn profile(&self) -> Profile
         ensures { result ≡ self.now.profile }
     {

@@ -46,9 +46,10 @@ fn without_white_space(alloc: Global, text: &[u8]) -> Result<Vec<u8>, AllocError
     Ok(digits)
 }
 
-// The octets that hexadecimal digits stand for.
+/// The octets that hexadecimal digits stand for, with white space among them; none where it is not so, or the number of
+/// digits is odd.
 #[tactic(auto, unfolding(crate::specs::Received::hex_octets))]
-fn hex_octets(alloc: Global, text: &[u8]) -> Result<Option<Vec<u8>>, AllocError>
+pub fn hex_octets(alloc: Global, text: &[u8]) -> Result<Option<Vec<u8>>, AllocError>
     ensures none { result ≡ Ok None → hex_octets text.now ≡ None }
     ensures some { IfOk result (λ octets.
         IfSome octets (λ os. hex_octets text.now ≡ Some os.items)) }

@@ -202,7 +202,7 @@ impl<'a> Start<'a> {
     }
 
     /// A run over a request of lines, which are read by a profile ([`avp_forms::profile_of`] tells which one their
-    /// first line asks for) and refused as a job's lines are; `zone` is that of [`avp_forms::FormValue::of_text`].
+    /// comments ask for) and refused as a job's lines are; `zone` is that of [`avp_forms::FormValue::of_text`].
     /// Without a secret no reply is made. With one, the reply to an Access-Request that `head` gives no authenticator
     /// is made over 16 zeros, and no digest of an Accounting-Request is checked.
     pub fn of_lines(

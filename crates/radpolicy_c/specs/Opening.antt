@@ -25,7 +25,7 @@ pub record IsReadFrom (files : List NamedFile) (dictionary : Dictionary) : Type 
   pub set : IsFileSet files
   pub read : dictionary_of max_lines files ≡ Ok dictionary
 
--- the text spells the policy by this dictionary, and its first line asks for this profile
+-- the text spells the policy by this dictionary, and its comments ask for this profile
 pub record IsSpelledBy (dictionary : Dictionary) (text : List ℕ) (policy : Prepared) : Type 0 where
   pub over : policy.dictionary ≡ dictionary
   pub profile : policy.profile ≡ profile_of text

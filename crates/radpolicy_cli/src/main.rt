@@ -16,13 +16,15 @@ use radpolicy_help::{
 };
 use std::process::ExitCode;
 
+const PROGRAM: &str = "radpolicy";
+
 // Refuses the words of the command line.
 fn refuse_words(rt: &HostRuntime, fault: &Fault, words: &[String]) -> u8
     requires { IsPrintedWith [] fault.now }
     ensures { result ≡ status_of fault.now }
 {
     if !is_help_wanted(rt) {
-        return refuse_early(rt, fault);
+        return refuse_early(rt, PROGRAM, fault);
     }
     let help = explain_words(rt.alloc(), fault, words);
     refuse_with_help(rt, fault, &FileSet::from_vec(Vec::new(rt.alloc())), help)
@@ -60,7 +62,7 @@ fn refuse_job(rt: &HostRuntime, plan: &Plan, job: &Job, fault: &Fault) -> u8
     ensures { result ≡ status_of fault.now }
 {
     if !is_help_wanted(rt) {
-        return refuse(rt, fault, &job.files);
+        return refuse(rt, PROGRAM, fault, &job.files);
     }
     let help = explain(rt.alloc(), fault, &Sources::of_job(plan, job));
     refuse_with_help(rt, fault, &job.files, help)
@@ -68,7 +70,7 @@ fn refuse_job(rt: &HostRuntime, plan: &Plan, job: &Job, fault: &Fault) -> u8
 
 // Refuses files that were not all read. The line has the octets of the path.
 fn refuse_files(rt: &HostRuntime, unread: Unread<'_>) -> u8 {
-    let code = refuse_unread(rt, unread);
+    let code = refuse_unread(rt, PROGRAM, unread);
     tell_unread(rt, unread);
     code
 }
@@ -98,13 +100,13 @@ fn run_plan(rt: &HostRuntime, plan: &Plan) -> u8
 fn run_words(rt: &HostRuntime, words: &[String]) -> u8 {
     match read_words(rt.alloc(), words) {
         Ok(plan) => run_plan(rt, &plan),
-        Err(Fault::Help) => show_help(rt, help_text(rt.alloc(), words)),
+        Err(Fault::Help) => show_help(rt, PROGRAM, help_text(rt.alloc(), words)),
         Err(fault) => refuse_words(rt, &fault, words),
     }
 }
 
 fn main(rt: HostRuntime) -> ExitCode {
-    let code = match command_words(&rt) {
+    let code = match command_words(&rt, PROGRAM) {
         Ok(words) => run_words(&rt, words.as_slice()),
         Err(code) => code,
     };

@@ -147,5 +147,5 @@ pub fn refuse_outputs(rt: &HostRuntime, program: &str, fault: &OutputFault<'_>) 
         let _ = rt.stderr().write_all(&line);
         return status(&said);
     }
-    refuse_early(rt, &said)
+    refuse_early(rt, program, &said)
 }

@@ -9,38 +9,40 @@ use crate::file_kinds::FileKind;
 use crate::files::Unread;
 use crate::terminals::{LineBreaks, visible_text};
 use avp_dict::FileSet;
-use radpolicy::{Fault, WriteOutput, print_fault, status};
+use radpolicy::{Fault, WriteOutput, print_named_fault, status};
 
-/// Prints a fault's line, and gives its status, which is that of the fault even if the line could not be printed.
-pub fn refuse(rt: &HostRuntime, fault: &Fault, files: &FileSet) -> u8
+/// Prints a fault's line under the name of a program, and gives its status, which is that of the fault even if the line
+/// could not be printed.
+pub fn refuse(rt: &HostRuntime, program: &str, fault: &Fault, files: &FileSet) -> u8
     requires { IsPrintedWith files.now fault.now }
     ensures { result ≡ status_of fault.now }
 {
     let mut out = WriteOutput::new(rt.stderr());
-    let _ = print_fault(fault, files, &mut out);
+    let _ = print_named_fault(program.as_bytes(), fault, files, &mut out);
     status(fault)
 }
 
 /// The same before any file was read.
-pub fn refuse_early(rt: &HostRuntime, fault: &Fault) -> u8
+pub fn refuse_early(rt: &HostRuntime, program: &str, fault: &Fault) -> u8
     requires { IsPrintedWith [] fault.now }
     ensures { result ≡ status_of fault.now }
 {
-    refuse(rt, fault, &FileSet::from_vec(Vec::new(rt.alloc())))
+    let files = FileSet::from_vec(Vec::new(rt.alloc()));
+    refuse(rt, program, fault, &files)
 }
 
 /// Prints the line of files that were not all read, and gives its status: want of memory is E09, no dictionary file
 /// E01, two of one name E02, and a file that was not readable E04 with its path.
-pub fn refuse_unread(rt: &HostRuntime, unread: Unread<'_>) -> u8
+pub fn refuse_unread(rt: &HostRuntime, program: &str, unread: Unread<'_>) -> u8
     ensures { result ≡ status_of (fault_of_unread unread.entry) }
 {
     let fault = unread.fault();
     match unread {
         Unread::File(path) => {
-            let _ = eprintln!(rt; "radpolicy: E04 {path}: {fault}");
+            let _ = eprintln!(rt; "{program}: E04 {path}: {fault}");
             status(&fault)
         }
-        _ => refuse_early(rt, &fault),
+        _ => refuse_early(rt, program, &fault),
     }
 }
 

@@ -1,3 +1,4 @@
 pub mod Halves
 pub mod Helping
+pub mod OneLine
 pub mod Pointing

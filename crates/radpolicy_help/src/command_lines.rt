@@ -125,6 +125,29 @@ pub(crate) fn explain_options(
     visible_text(alloc, &help, LineBreaks::Kept)
 }
 
+/// What is said of the words of a command line that were refused for this, a sentence a line, without how the program is
+/// used.
+pub(crate) fn explain_options_shortly(
+    alloc: Global,
+    fault: &Fault,
+    said: &str,
+) -> Result<Vec<u8>, AllocError> {
+    let mut help = Vec::new(alloc);
+    if !matches!(fault, Fault::Usage | Fault::OptionValue) {
+        return Ok(help);
+    }
+    for line in said.as_bytes().split(|octet| *octet == b'\n') {
+        let line = line.trim_ascii();
+        if line.starts_with(b"Usage:") {
+            break;
+        }
+        let sentence = line.strip_prefix(b"error: ").unwrap_or(line);
+        help.extend_from_slice(sentence.strip_suffix(b":").unwrap_or(sentence))?;
+        help.push(b'\n')?;
+    }
+    Ok(help)
+}
+
 /// What is said where no dictionary is named, and the system has none.
 pub(crate) fn explain_no_dictionary(alloc: Global) -> Result<Vec<u8>, AllocError> {
     let mut help = Vec::new(alloc);

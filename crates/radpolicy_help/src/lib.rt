@@ -20,6 +20,7 @@ mod halves;
 mod hidden;
 mod names;
 mod nearest;
+mod one_line;
 mod packets;
 mod patterns;
 mod places;
@@ -48,11 +49,12 @@ mod written_pairs;
 pub use command_lines::{explain_unread, explain_words};
 pub use explanations::{explain, explain_by};
 pub use names::explain_name;
+pub use one_line::{sentences, split_place};
 pub use pointing::{Pointed, point_at};
 pub use printing::print_with_help;
 pub use refusing::{
-    refuse_explained, refuse_name, refuse_unread_explained, refuse_with_help, refuse_words_of,
-    tell_help, tell_unread,
+    refuse_at, refuse_explained, refuse_name, refuse_unread_explained, refuse_with_help,
+    refuse_words_of, tell_fault, tell_help, tell_unread,
 };
 pub use sources::{STANDARD_INPUT, Source, Sources};
 pub use statements::without_statement;

@@ -5,17 +5,22 @@ ghost use Rattle.radpolicy.specs.Faults.{IsPrintedWith, status_of};
 ghost use Rattle.radpolicy_common.specs.Refusals.{fault_of_unread};
 
 use crate::colours::coloured;
-use crate::command_lines::{explain_no_dictionary, explain_options, explain_unread};
+use crate::command_lines::{
+    explain_no_dictionary, explain_options, explain_options_shortly, explain_unread,
+};
 use crate::explanations::explain;
 use crate::names::explain_name;
+use crate::one_line::{Told, on_one_line};
 use crate::printing::print_with_help;
 use crate::sources::Sources;
 use crate::wishes::is_help_wanted;
 use avp_dict::{Dictionary, FileSet};
-use radpolicy::{Fault, WriteOutput, print_fault, status};
+use radpolicy::{Fault, WriteOutput, print_named_fault, status};
 use radpolicy_common::{LineBreaks, Stream, Unread, refuse, refuse_early, visible_text};
 use std::alloc::{AllocError, Global};
 use std::fs;
+
+const RADPOLICY: &str = "radpolicy";
 
 // Help as it is printed.
 fn shown_help(rt: &HostRuntime, help: Vec<u8>) -> Result<Vec<u8>, AllocError> {
@@ -36,8 +41,8 @@ pub fn tell_help(rt: &HostRuntime, help: Result<Vec<u8>, AllocError>) {
     }
 }
 
-/// Prints a fault's line and its help, if there was memory for it, and gives the fault's status. In colour, where
-/// colours are wanted, the help's places and carets are bold.
+/// Prints a fault of `radpolicy` itself and its help, if there was memory for it, and gives the fault's status. In colour,
+/// where colours are wanted, the help's places and carets are bold.
 pub fn refuse_with_help(
     rt: &HostRuntime,
     fault: &Fault,
@@ -54,43 +59,124 @@ pub fn refuse_with_help(
         let _ = print_with_help(fault, files, &help, &mut out);
         status(fault)
     } else {
-        refuse(rt, fault, files)
+        refuse(rt, RADPOLICY, fault, files)
     }
 }
 
-// A fault's line as a terminal may show it, and what follows it.
-fn visible_fault(
+// What is printed of a fault: where help is wanted its line and the help below it, else both on one line.
+fn fault_text(rt: &HostRuntime, told: &Told<'_>) -> Result<Vec<u8>, AllocError> {
+    if !is_help_wanted(rt) {
+        return on_one_line(rt.alloc(), told);
+    }
+    let mut text = Vec::from_slice(rt.alloc(), told.line)?;
+    text.push(b'\n')?;
+    let shown = shown_help(rt, Vec::from_slice(rt.alloc(), told.help)?)?;
+    text.extend_from_slice(&shown)?;
+    Ok(text)
+}
+
+// Prints a fault; no more than its line where there is no memory for its help.
+fn tell(rt: &HostRuntime, told: &Told<'_>) {
+    match fault_text(rt, told) {
+        Ok(text) => {
+            let _ = rt.stderr().write_all(&text);
+        }
+        Err(_) => {
+            let _ = rt.stderr().write_all(told.line);
+            let _ = rt.stderr().write_all(b"\n");
+        }
+    }
+}
+
+// A fault's line under a program's name, without its end. It has no control characters.
+fn named_line(
     alloc: Global,
+    program: &str,
     fault: &Fault,
     files: &FileSet,
-    help: &[u8],
 ) -> Result<Vec<u8>, AllocError>
     requires { IsPrintedWith files.now fault.now }
 {
     let mut line = Vec::new(alloc);
-    let _ = print_fault(fault, files, &mut WriteOutput::new(&mut line));
-    let mut text = visible_text(alloc, &line, LineBreaks::Kept)?;
-    text.extend_from_slice(help)?;
-    Ok(text)
-}
-
-// What follows a fault's line, as it is printed; nothing if no help is wanted.
-fn wanted_help(
-    rt: &HostRuntime,
-    fault: &Fault,
-    sources: &Sources<'_>,
-) -> Result<Vec<u8>, AllocError> {
-    if is_help_wanted(rt) {
-        shown_help(rt, explain(rt.alloc(), fault, sources)?)
-    } else {
-        Ok(Vec::new(rt.alloc()))
+    let mut out = WriteOutput::new(&mut line);
+    if !print_named_fault(program.as_bytes(), fault, files, &mut out) {
+        return Err(AllocError);
     }
+    visible_text(
+        alloc,
+        line.strip_suffix(b"\n").unwrap_or(&line),
+        LineBreaks::Escaped,
+    )
 }
 
-/// Prints a fault's line and, if help is wanted, what explains it, and gives the fault's status. For programs beside
-/// `radpolicy`: of what is printed, names of files included, nothing has control characters.
+// The same of a fault at a place that the program names itself, as a path, a word or a line of a file.
+fn placed_line(
+    alloc: Global,
+    program: &str,
+    fault: &Fault,
+    place: &[u8],
+) -> Result<Vec<u8>, AllocError> {
+    let number = fault.number();
+    let mut line = Vec::from_slice(
+        alloc,
+        format!(in alloc; "{program}: E{number:02} ")?.as_bytes(),
+    )?;
+    line.extend_from_slice(place)?;
+    line.extend_from_slice(format!(in alloc; ": {fault}")?.as_bytes())?;
+    visible_text(alloc, &line, LineBreaks::Escaped)
+}
+
+/// Prints a fault by its line, and what helps: below the line where help is wanted, else behind it. Where there is no
+/// memory for the line, the fault's number and words are printed.
+pub fn tell_fault(
+    rt: &HostRuntime,
+    program: &str,
+    fault: &Fault,
+    line: Result<Vec<u8>, AllocError>,
+    help: Result<Vec<u8>, AllocError>,
+) {
+    let Ok(line) = line else {
+        let number = fault.number();
+        let _ = eprintln!(rt; "{program}: E{number:02}: {fault}");
+        return;
+    };
+    let help = match &help {
+        Ok(help) => help.as_slice(),
+        Err(_) => &[],
+    };
+    tell(
+        rt,
+        &Told {
+            program,
+            fault,
+            line: &line,
+            help,
+        },
+    );
+}
+
+/// Prints a fault at a place that the program names itself, as a path, a word or a line of a file, with what helps, and
+/// gives the fault's status. Where no help is wanted all is on one line, else the help is below the fault's line.
+pub fn refuse_at(
+    rt: &HostRuntime,
+    program: &str,
+    fault: &Fault,
+    place: &[u8],
+    help: Result<Vec<u8>, AllocError>,
+) -> u8
+    ensures { result ≡ status_of fault.now }
+{
+    let line = placed_line(rt.alloc(), program, fault, place);
+    tell_fault(rt, program, fault, line, help);
+    status(fault)
+}
+
+/// Prints a fault as a program beside `radpolicy` does, and gives the fault's status: under the program's name, and with
+/// what explains it, below the fault's line where help is wanted and else on one line with the place. Of what is printed,
+/// names of files included, nothing has control characters.
 pub fn refuse_explained(
     rt: &HostRuntime,
+    program: &str,
     fault: &Fault,
     files: &FileSet,
     sources: &Sources<'_>,
@@ -98,56 +184,49 @@ pub fn refuse_explained(
     requires { IsPrintedWith files.now fault.now }
     ensures { result ≡ status_of fault.now }
 {
-    if let Ok(help) = wanted_help(rt, fault, sources)
-        && let Ok(text) = visible_fault(rt.alloc(), fault, files, &help)
-    {
-        let _ = rt.stderr().write_all(&text);
-        status(fault)
-    } else {
-        refuse(rt, fault, files)
-    }
+    let line = named_line(rt.alloc(), program, fault, files);
+    let help = explain(rt.alloc(), fault, sources);
+    tell_fault(rt, program, fault, line, help);
+    status(fault)
 }
 
-// Prints the line of a fault that names a word of the command line, without its control characters.
-fn print_word(rt: &HostRuntime, word: &str, fault: &Fault) {
-    let number = fault.number();
-    let _ = eprint!(rt; "radpolicy: E0{number} ");
-    if let Ok(shown) = visible_text(rt.alloc(), word.as_bytes(), LineBreaks::Escaped) {
-        let _ = rt.stderr().write_all(&shown);
-    }
-    let _ = eprintln!(rt; ": {fault}");
+// What is said of a file that was not readable.
+fn unread_help(rt: &HostRuntime, path: &str) -> Result<Vec<u8>, AllocError> {
+    let is_folder = fs::metadata(rt, path).is_ok_and(|found| found.is_dir());
+    explain_unread(rt.alloc(), path, is_folder)
 }
 
 /// Prints what is said of a file that was not readable, or where there is no dictionary, if help is wanted.
 pub fn tell_unread(rt: &HostRuntime, unread: Unread<'_>) {
     match unread {
-        Unread::File(path) if is_help_wanted(rt) => {
-            let is_folder = fs::metadata(rt, path).is_ok_and(|found| found.is_dir());
-            tell_help(rt, explain_unread(rt.alloc(), path, is_folder));
-        }
+        Unread::File(path) if is_help_wanted(rt) => tell_help(rt, unread_help(rt, path)),
         Unread::NoDictionary => tell_help(rt, explain_no_dictionary(rt.alloc())),
         Unread::File(_) | Unread::Memory | Unread::SameNames => {}
     }
 }
 
-/// Prints the line of files that were not all read, and gives its status. If help is wanted, that for a file which was
-/// not readable follows its line. For programs beside `radpolicy`: the path has no control characters.
-pub fn refuse_unread_explained(rt: &HostRuntime, unread: Unread<'_>) -> u8
+/// Prints the line of files that were not all read, with what is said of them, and gives its status. For programs beside
+/// `radpolicy`: the path has no control characters.
+pub fn refuse_unread_explained(rt: &HostRuntime, program: &str, unread: Unread<'_>) -> u8
     ensures { result ≡ status_of (fault_of_unread unread.entry) }
 {
     let fault = unread.fault();
     match unread {
-        Unread::File(path) => print_word(rt, path, &fault),
-        _ => {
-            refuse_early(rt, &fault);
+        Unread::File(path) => {
+            refuse_at(rt, program, &fault, path.as_bytes(), unread_help(rt, path))
         }
+        Unread::NoDictionary => {
+            let alloc = rt.alloc();
+            let line = named_line(alloc, program, &fault, &FileSet::from_vec(Vec::new(alloc)));
+            tell_fault(rt, program, &fault, line, explain_no_dictionary(alloc));
+            status(&fault)
+        }
+        Unread::Memory | Unread::SameNames => refuse_early(rt, program, &fault),
     }
-    tell_unread(rt, unread);
-    status(&fault)
 }
 
-/// Prints the line of words of a command line that were refused and, if help is wanted, what is said of them and how a
-/// program of this name is asked for its options; and gives the fault's status.
+/// Prints the line of words of a command line that were refused, and what is said of them; where help is wanted, also how
+/// the program is asked for its options. Gives the fault's status.
 pub fn refuse_words_of(
     rt: &HostRuntime,
     fault: &Fault,
@@ -157,21 +236,24 @@ pub fn refuse_words_of(
     requires { IsPrintedWith [] fault.now }
     ensures { result ≡ status_of fault.now }
 {
+    let alloc = rt.alloc();
     let Ok(said) = said else {
-        return refuse_early(rt, fault);
+        return refuse_early(rt, program, fault);
     };
-    if !is_help_wanted(rt) {
-        return refuse_early(rt, fault);
-    }
-    let help = explain_options(rt.alloc(), fault, program, said.as_str());
-    refuse_with_help(rt, fault, &FileSet::from_vec(Vec::new(rt.alloc())), help)
+    let help = if is_help_wanted(rt) {
+        explain_options(alloc, fault, program, said.as_str())
+    } else {
+        explain_options_shortly(alloc, fault, said.as_str())
+    };
+    let line = named_line(alloc, program, fault, &FileSet::from_vec(Vec::new(alloc)));
+    tell_fault(rt, program, fault, line, help);
+    status(fault)
 }
 
-/// Prints the line of a name of the command line that is no attribute's of the dictionary and, if help is wanted, which
-/// names are near; and gives the fault's status.
-pub fn refuse_name(rt: &HostRuntime, dictionary: &Dictionary, name: &str) -> u8 {
+/// Prints the line of a name of the command line that is no attribute's of the dictionary, and which names are near; and
+/// gives the fault's status.
+pub fn refuse_name(rt: &HostRuntime, program: &str, dictionary: &Dictionary, name: &str) -> u8 {
     let fault = Fault::OptionValue;
-    print_word(rt, name, &fault);
-    tell_help(rt, explain_name(rt.alloc(), dictionary, name));
-    status(&fault)
+    let help = explain_name(rt.alloc(), dictionary, name);
+    refuse_at(rt, program, &fault, name.as_bytes(), help)
 }

@@ -25,7 +25,7 @@ pub struct Sources<'a> {
     pub script: Source<'a>,
     /// The path of the secret's file.
     pub secret: &'a str,
-    /// The request is read in the forms of the wider profile, whatever its first line says.
+    /// The request is read in the forms of the wider profile, whatever its comments ask for.
     pub is_request_wider: bool,
     /// The names of attributes that are secret as well, as if the dictionary marked them.
     pub hidden: &'a [&'a str],

@@ -5,17 +5,19 @@ ghost use Rattle.radpolicy.specs.Faults.{IsWordFault};
 
 use avp_forms::Profile;
 use clap::{Arg, ArgAction, ArgMatches};
-use radpolicy::{Fault, word_fault};
+use radpolicy::Fault;
 use radpolicy_common::SecretValues;
 use radpolicy_import_policies::{LineEnds, Meaning, Stubs};
+use radpolicy_options::{
+    HIDE, POLICY, SHOW_SECRETS, flag, hide_option, lettered, matches_of, repeated, shown_secrets,
+    valued, words_in,
+};
 use std::alloc::{AllocError, Global};
 use std::convert::AsStr;
 
 const SERVER: &str = "server";
 
 const SECTION: &str = "section";
-
-const POLICY: &str = "policy";
 
 const MODULE: &str = "module";
 
@@ -47,10 +49,6 @@ const CHECK: &str = "check";
 const STRICT: &str = "strict";
 
 const JSON: &str = "json";
-
-const HIDE: &str = "hide";
-
-const SHOW_SECRETS: &str = "show-secrets";
 
 const CONFIGURATION: &str = "configuration";
 
@@ -106,35 +104,14 @@ impl Plan<'_> {
     }
 }
 
-fn valued<'a>(alloc: Global, name: &'a str, value: &'a str, help: &'a str) -> Arg<'a> {
-    Arg::new(alloc, name)
-        .long(name)
-        .value_name(value)
-        .action(ArgAction::Set)
-        .help(help)
-}
-
-fn repeated<'a>(alloc: Global, name: &'a str, value: &'a str, help: &'a str) -> Arg<'a> {
-    Arg::new(alloc, name)
-        .long(name)
-        .value_name(value)
-        .action(ArgAction::Append)
-        .help(help)
-}
-
-fn flag<'a>(alloc: Global, name: &'a str, help: &'a str) -> Arg<'a> {
-    Arg::new(alloc, name)
-        .long(name)
-        .action(ArgAction::SetTrue)
-        .help(help)
-}
-
 fn output_option<'a>(alloc: Global) -> Arg<'a> {
-    Arg::new(alloc, OUTPUT)
-        .short('o')
-        .value_name("POLICY")
-        .action(ArgAction::Set)
-        .help("Writes the policy to this file")
+    lettered(
+        alloc,
+        OUTPUT,
+        'o',
+        "POLICY",
+        "Writes the policy to this file",
+    )
 }
 
 fn configuration_files<'a>(alloc: Global) -> Arg<'a> {
@@ -235,29 +212,13 @@ fn program<'a>(alloc: Global) -> Result<clap::Command<'a>, AllocError> {
         .arg(flag(alloc, CHECK, "Writes the report alone"))?
         .arg(flag(alloc, STRICT, "Ends with status 1 where a part is left out"))?
         .arg(flag(alloc, JSON, "Writes the report as JSON, an object a line"))?
-        .arg(repeated(
-            alloc,
-            HIDE,
-            "NAME",
-            "Hides an attribute's values as those of secret ones; may be given more than once",
-        ))?
+        .arg(hide_option(alloc))?
         .arg(flag(
             alloc,
             SHOW_SECRETS,
             "Shows passwords, secrets and keys in the report and in comments",
         ))?
         .arg(configuration_files(alloc))
-}
-
-fn all_of<'a>(
-    alloc: Global,
-    found: &ArgMatches<'a>,
-    name: &str,
-) -> Result<Vec<&'a str>, AllocError> {
-    match found.get_strs(name) {
-        Some(words) => Vec::from_slice(alloc, words),
-        None => Ok(Vec::new(alloc)),
-    }
 }
 
 fn meaning(found: &ArgMatches<'_>) -> Meaning {
@@ -284,14 +245,6 @@ fn profile(found: &ArgMatches<'_>) -> Profile {
     }
 }
 
-fn secrets(found: &ArgMatches<'_>) -> SecretValues {
-    if found.get_flag(SHOW_SECRETS) {
-        SecretValues::Shown
-    } else {
-        SecretValues::Hidden
-    }
-}
-
 fn own_dictionary<'a>(found: &ArgMatches<'a>) -> Option<&'a str> {
     found
         .get_str(WRITE_DICTIONARY)
@@ -311,8 +264,8 @@ fn plan_of<'a>(alloc: Global, found: &ArgMatches<'a>) -> Result<Plan<'a>, Fault>
         server: found.get_str(SERVER),
         section: found.get_str(SECTION),
         policy: found.get_str(POLICY),
-        modules: all_of(alloc, found, MODULE)?,
-        dictionaries: all_of(alloc, found, DICTIONARY)?,
+        modules: words_in(alloc, found, MODULE)?,
+        dictionaries: words_in(alloc, found, DICTIONARY)?,
         own_dictionary: own_dictionary(found),
         stubs: stubs(found),
         output: found.get_str(OUTPUT),
@@ -325,9 +278,9 @@ fn plan_of<'a>(alloc: Global, found: &ArgMatches<'a>) -> Result<Plan<'a>, Fault>
         only_checks: found.get_flag(CHECK),
         strict: found.get_flag(STRICT),
         is_json: found.get_flag(JSON),
-        hidden: all_of(alloc, found, HIDE)?,
-        secrets: secrets(found),
-        configuration: all_of(alloc, found, CONFIGURATION)?,
+        hidden: words_in(alloc, found, HIDE)?,
+        secrets: shown_secrets(found),
+        configuration: words_in(alloc, found, CONFIGURATION)?,
     };
     if plan.only_checks && plan.writes() {
         return Err(Fault::Usage);
@@ -367,9 +320,7 @@ fn refusal_of(found: &ArgMatches<'_>) -> &'static str {
 pub fn read_words<'a, S: AsStr>(alloc: Global, words: &'a [S]) -> Result<Plan<'a>, Fault>
     ensures { IfErr result IsWordFault }
 {
-    let matches = program(alloc)?
-        .try_get_matches_from(words)
-        .map_err(|error| word_fault(&error))?;
+    let matches = matches_of(program(alloc)?, words)?;
     plan_of(alloc, &matches)
 }
 

@@ -5,6 +5,7 @@ mod command_line;
 mod json_reports;
 mod outputs;
 mod reports;
+mod sections;
 mod sources;
 
 ghost use Rattle.std.specs.Prelude.{◌<◌, IfErr, IfOk, length};
@@ -17,6 +18,7 @@ use crate::reports::{
     OthersReport, refuse_value, show_fault, show_initial_fault, show_initial_line, show_others,
     show_report,
 };
+use crate::sections::lack_text;
 use crate::sources::{
     FIRST, Given, NamedFiles, first_file, main_file, name_files, read_given, system_dictionaries,
     with_main, with_names,
@@ -30,7 +32,7 @@ use radpolicy_common::{
     refuse_early, refuse_outputs, show_help,
 };
 use radpolicy_help::{
-    Sources, refuse_explained, refuse_name, refuse_unread_explained, refuse_words_of,
+    Sources, refuse_at, refuse_explained, refuse_name, refuse_unread_explained, refuse_words_of,
 };
 use radpolicy_import_conditions::{KnownCodes, OtherAttribute, OtherSource};
 use radpolicy_import_policies::{
@@ -169,11 +171,10 @@ fn imported(
     }
 }
 
-fn refuse_section(rt: &HostRuntime, plan: &Plan<'_>) -> u8 {
-    match plan.policy {
-        Some(name) => refuse_value(rt, name),
-        None => refuse_value(rt, plan.section.unwrap_or("authorize")),
-    }
+fn refuse_section(rt: &HostRuntime, plan: &Plan<'_>, configuration: &Configuration) -> u8 {
+    let word = plan.policy.or(plan.section).unwrap_or("authorize");
+    let lack = lack_text(rt.alloc(), configuration, plan, wanted(plan));
+    refuse_at(rt, PROGRAM, &Fault::OptionValue, word.as_bytes(), lack)
 }
 
 /// What was made.
@@ -230,7 +231,7 @@ fn show(rt: &HostRuntime, import: &Import<'_, '_, '_>, made: Made<'_>) -> u8 {
         return refuse_outputs(rt, PROGRAM, &fault);
     }
     if report(rt, import, made).is_err() {
-        return refuse_early(rt, &Fault::Memory);
+        return refuse_early(rt, PROGRAM, &Fault::Memory);
     }
     if plan.strict && !made.imported.left_out.is_empty() {
         LEFT_OUT
@@ -292,7 +293,7 @@ fn import_others(
         // (what was to be written is no file that help could quote)
         Err(fault) => {
             let sources = Sources::of_files(&all, &[]);
-            return Ok(refuse_explained(rt, &fault, &all, &sources));
+            return Ok(refuse_explained(rt, PROGRAM, &fault, &all, &sources));
         }
     };
     // By it names would not stay what they were.
@@ -424,7 +425,7 @@ fn import_hiding(
     };
     let statements = match statements_meant(rt.alloc(), plan, &configuration) {
         Ok(Some(statements)) => statements,
-        Ok(None) => return Ok(refuse_section(rt, plan)),
+        Ok(None) => return Ok(refuse_section(rt, plan, &configuration)),
         Err(fault) => return refuse_statements(rt, fault),
     };
     let Some(initial) = add_pairs(rt, plan, read.given, &mut configuration) else {
@@ -456,7 +457,7 @@ fn import_by(
     let dictionary = dictionary_of(rt.alloc(), read.files)?;
     let given = match named_attributes(rt.alloc(), &dictionary, &plan.hidden)? {
         Ok(given) => given,
-        Err(name) => return Ok(refuse_name(rt, &dictionary, name)),
+        Err(name) => return Ok(refuse_name(rt, PROGRAM, &dictionary, name)),
     };
     let hiding = Hiding {
         secrets: plan.secrets,
@@ -472,20 +473,26 @@ fn refuse_import(rt: &HostRuntime, dictionaries: &[&str], files: &FileSet, fault
 {
     match fault {
         Fault::Dictionary(_) => {
-            refuse_explained(rt, fault, files, &Sources::of_files(files, dictionaries))
+            refuse_explained(
+                rt,
+                PROGRAM,
+                fault,
+                files,
+                &Sources::of_files(files, dictionaries),
+            )
         }
-        _ => refuse(rt, fault, files),
+        _ => refuse(rt, PROGRAM, fault, files),
     }
 }
 
 fn import_with(rt: &HostRuntime, plan: &Plan<'_>, dictionaries: &[&str]) -> u8 {
     let given = match read_given(rt, plan) {
         Ok(given) => given,
-        Err(unread) => return refuse_unread_explained(rt, unread),
+        Err(unread) => return refuse_unread_explained(rt, PROGRAM, unread),
     };
     let files = match read_dictionary_set(rt, dictionaries) {
         Ok(files) => files,
-        Err(unread) => return refuse_unread_explained(rt, unread),
+        Err(unread) => return refuse_unread_explained(rt, PROGRAM, unread),
     };
     let read = Read {
         files: &files,
@@ -518,20 +525,20 @@ fn import_plan(rt: &HostRuntime, plan: &Plan<'_>) -> u8 {
     }
     match import_by_system(rt, plan) {
         Ok(status) => status,
-        Err(_) => refuse_early(rt, &Fault::Memory),
+        Err(_) => refuse_early(rt, PROGRAM, &Fault::Memory),
     }
 }
 
 fn import_words(rt: &HostRuntime, words: &[String]) -> u8 {
     match read_words(rt.alloc(), words) {
         Ok(plan) => import_plan(rt, &plan),
-        Err(Fault::Help) => show_help(rt, help_text(rt.alloc(), words)),
+        Err(Fault::Help) => show_help(rt, PROGRAM, help_text(rt.alloc(), words)),
         Err(fault) => refuse_words_of(rt, &fault, PROGRAM, help_text(rt.alloc(), words)),
     }
 }
 
 fn main(rt: HostRuntime) -> ExitCode {
-    let code = match command_words(&rt) {
+    let code = match command_words(&rt, PROGRAM) {
         Ok(words) => import_words(&rt, words.as_slice()),
         Err(code) => code,
     };

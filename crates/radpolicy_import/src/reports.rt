@@ -1,11 +1,12 @@
 //! What the program writes.
 
+use crate::PROGRAM;
 use crate::json_reports::{json_others, json_report};
 use crate::sources::FIRST;
 use avp_dict::Dictionary;
-use radpolicy::{Fault, status};
+use radpolicy::Fault;
 use radpolicy_common::{LineBreaks, visible_text};
-use radpolicy_help::{Advice, findings};
+use radpolicy_help::{Advice, findings, refuse_at};
 use radpolicy_import_conditions::{OtherAttribute, OtherSource, Reason};
 use radpolicy_import_policies::{Imported, LeftOut, Origin, Warning, push_origin};
 use radpolicy_import_texts::{SecretNames, shown_expansion};
@@ -113,6 +114,22 @@ fn push_difference(
     out.extend_from_slice(text.as_bytes())
 }
 
+// How many statements are kept, and how many of them depend on a value that is given, if there are any.
+fn push_counts(alloc: Global, out: &mut Vec<u8>, imported: &Imported) -> Result<(), AllocError> {
+    let (kept, read) = (imported.kept, imported.read);
+    let calls = match imported.calls {
+        1 => format!(in alloc; "1 module call is a comment")?,
+        calls => format!(in alloc; "{calls} module calls are comments")?,
+    };
+    let given = match imported.given {
+        0 => String::new(alloc),
+        1 => format!(in alloc; "1 of the kept depends on a value that you supply\n")?,
+        given => format!(in alloc; "{given} of the kept depend on a value that you supply\n")?,
+    };
+    let text = format!(in alloc; "{kept} of {read} statements kept, {calls}\n{given}")?;
+    out.extend_from_slice(text.as_bytes())
+}
+
 // The report: how many statements are kept, each part that is left out, and each warning.
 fn report(
     alloc: Global,
@@ -120,13 +137,8 @@ fn report(
     imported: &Imported,
     differences: &[ServerDifference],
 ) -> Result<Vec<u8>, AllocError> {
-    let (kept, read, calls) = (imported.kept, imported.read, imported.calls);
-    let given = imported.given;
-    let head = format!(in alloc;
-        "{kept} of {read} statements kept, {calls} module calls are comments\n\
-        {given} of the kept have a value that is given\n"
-    )?;
-    let mut out = Vec::from_slice(alloc, head.as_bytes())?;
+    let mut out = Vec::new(alloc);
+    push_counts(alloc, &mut out, imported)?;
     for part in &imported.left_out {
         push_part(alloc, &mut out, configuration, part)?;
     }
@@ -272,9 +284,6 @@ pub fn show_initial_line(rt: &HostRuntime, path: &str, line: usize, reason: Reas
 
 /// Refuses the value of an option.
 pub fn refuse_value(rt: &HostRuntime, word: &str) -> u8 {
-    let fault = Fault::OptionValue;
-    if let Ok(behind) = format!(in rt.alloc(); ": {fault}\n") {
-        tell(rt, "radpolicy: E02 ", word, behind.as_str());
-    }
-    status(&fault)
+    let help = Ok(Vec::new(rt.alloc()));
+    refuse_at(rt, PROGRAM, &Fault::OptionValue, word.as_bytes(), help)
 }

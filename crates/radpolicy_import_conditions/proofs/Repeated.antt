@@ -21,7 +21,7 @@ use Rattle.avp_unlang.proofs.CaptureFree.{evaluated_truth, or_left, or_right}
 use Rattle.avp_unlang.proofs.EvaluatedConds.{evaluated_compare_texts}
 use Rattle.avp_unlang.proofs.Truths.{truth_by_compare_texts}
 use Rattle.radpolicy_import_conditions.specs.Capturing.{Answered, answered, both_answered, denied, either_answered, has_pattern, is_repeatable, unchanged, uses_captures}
-use Rattle.radpolicy_import_conditions.specs.Conditions.{Answer, answer_with, both, either, is_false, is_side_there, is_true}
+use Rattle.radpolicy_import_conditions.specs.Conditions.{Answer, answer_with, answer_both, answer_either, is_false, is_side_there, is_true}
 use Rattle.radpolicy_import_conditions.specs.declared.server_conditions.ServerCondition.{ServerCondition, Constant, Last, Present, Compare, Match, CompareTexts, MatchText, MatchGroup, Captured, Not', And', Or'}
 
 -- ---- one that captures nothing
@@ -93,14 +93,14 @@ found_after d m s k = mapped_after (λ pair. captures_in (pattern_in m) (meaning
 
 both_steady : (a b : Answer) (x y : Option Captures) (k : Captures)
     → cond (is_true a) (unchanged b (after y (after x k))) (unchanged a (after x k))
-    ≡ unchanged (both a b) (after (cond (is_true a) (later y x) x) k)
+    ≡ unchanged (answer_both a b) (after (cond (is_true a) (later y x) x) k)
 both_steady None b x y k = refl
 both_steady (Some true) b x y k = ap (unchanged b) (later_after y x k)
 both_steady (Some false) b x y k = refl
 
 either_steady : (a b : Answer) (x y : Option Captures) (k : Captures)
     → cond (is_false a) (unchanged b (after y (after x k))) (unchanged a (after x k))
-    ≡ unchanged (either a b) (after (cond (is_false a) (later y x) x) k)
+    ≡ unchanged (answer_either a b) (after (cond (is_false a) (later y x) x) k)
 either_steady None b x y k = refl
 either_steady (Some true) b x y k = refl
 either_steady (Some false) b x y k = ap (unchanged b) (later_after y x k)

@@ -36,7 +36,7 @@ use Rattle.avp_unlang.specs.declared.tree.TextComparison.{TextComparison}
 use Rattle.avp_unlang.specs.declared.tree.TextSide.{TextSide}
 use Rattle.avp_unlang.specs.declared.tree.TextSide.TheVariants as side
 use Rattle.avp_unlang.proofs.Truths.{given_any, given_all, given_captured, given_compare, given_compare_texts, given_last, given_match, given_match_group, given_match_text, given_not, given_present, given_present_selected}
-use Rattle.radpolicy_import_conditions.specs.Conditions.{Answer, both, either, compared, comparison_answer, is_side_there, is_true, is_false, matching_answer, texts_answer}
+use Rattle.radpolicy_import_conditions.specs.Conditions.{Answer, answer_both, answer_either, compared, comparison_answer, is_side_there, is_true, is_false, matching_answer, texts_answer}
 use Rattle.radpolicy_import_conditions.specs.internal.Guards.{Matches, truth_of}
 
 -- ---- the truth of each kind of condition, whichever comparisons with patterns are met
@@ -232,50 +232,50 @@ pub false_not : (a : Answer) → is_false (option_map not a) ≡ is_true a
 false_not None = refl
 false_not (Some b) = not_not b
 
-pub true_both : (a b : Answer) → is_true (both a b) ≡ (is_true a && is_true b)
+pub true_both : (a b : Answer) → is_true (answer_both a b) ≡ (is_true a && is_true b)
 true_both None b = refl
 true_both (Some true) b = refl
 true_both (Some false) b = refl
 
-pub false_either : (a b : Answer) → is_false (either a b) ≡ (is_false a && is_false b)
+pub false_either : (a b : Answer) → is_false (answer_either a b) ≡ (is_false a && is_false b)
 false_either None b = refl
 false_either (Some true) b = refl
 false_either (Some false) b = refl
 
 -- the guard of `||` that a first answer of false is
-pub guarded_by_false : (a b : Answer) → (is_true a || (is_false a && is_true b)) ≡ is_true (either a b)
+pub guarded_by_false : (a b : Answer) → (is_true a || (is_false a && is_true b)) ≡ is_true (answer_either a b)
 guarded_by_false None b = refl
 guarded_by_false (Some true) b = refl
 guarded_by_false (Some false) b = refl
 
 -- that there is an answer
-pub guarded_by_answer : (a b : Answer) → (is_true a || (is_some a && is_true b)) ≡ is_true (either a b)
+pub guarded_by_answer : (a b : Answer) → (is_true a || (is_some a && is_true b)) ≡ is_true (answer_either a b)
 guarded_by_answer None b = refl
 guarded_by_answer (Some true) b = refl
 guarded_by_answer (Some false) b = refl
 
 -- none where there always is one
-pub unguarded : (a b : Answer) → is_some a ≡ true → (is_true a || (true && is_true b)) ≡ is_true (either a b)
+pub unguarded : (a b : Answer) → is_some a ≡ true → (is_true a || (true && is_true b)) ≡ is_true (answer_either a b)
 unguarded None b h = cc
 unguarded (Some true) b h = refl
 unguarded (Some false) b h = refl
 
-pub false_guarded : (a b : Answer) → (is_false a || (is_true a && is_false b)) ≡ is_false (both a b)
+pub false_guarded : (a b : Answer) → (is_false a || (is_true a && is_false b)) ≡ is_false (answer_both a b)
 false_guarded None b = refl
 false_guarded (Some true) b = refl
 false_guarded (Some false) b = refl
 
-pub false_unguarded : (a b : Answer) → is_some a ≡ true → (is_false a || (true && is_false b)) ≡ is_false (both a b)
+pub false_unguarded : (a b : Answer) → is_some a ≡ true → (is_false a || (true && is_false b)) ≡ is_false (answer_both a b)
 false_unguarded None b h = cc
 false_unguarded (Some true) b h = refl
 false_unguarded (Some false) b h = refl
 
-pub some_both : (a b : Answer) → is_some a ≡ true → is_some b ≡ true → is_some (both a b) ≡ true
+pub some_both : (a b : Answer) → is_some a ≡ true → is_some b ≡ true → is_some (answer_both a b) ≡ true
 some_both None b h k = h
 some_both (Some true) b h k = k
 some_both (Some false) b h k = refl
 
-pub some_either : (a b : Answer) → is_some a ≡ true → is_some b ≡ true → is_some (either a b) ≡ true
+pub some_either : (a b : Answer) → is_some a ≡ true → is_some b ≡ true → is_some (answer_either a b) ≡ true
 some_either None b h k = h
 some_either (Some true) b h k = refl
 some_either (Some false) b h k = k
@@ -365,18 +365,18 @@ right_present k l list i id s g e f h =
     moved_present l list i id s e f
     (moved_here _ _ (ap (λ x. is_some (compared_with x s)) g ∙ sym (found_value l i s)) there)
 
-pub from_first : (a b : Answer) (p : Bool) → (IsTrue (is_true a) → IsTrue p) → IsTrue (is_true (both a b)) → IsTrue p
+pub from_first : (a b : Answer) (p : Bool) → (IsTrue (is_true a) → IsTrue p) → IsTrue (is_true (answer_both a b)) → IsTrue p
 from_first None b p f h = cc
 from_first (Some true) b p f h = f refl
 from_first (Some false) b p f h = cc
 
-pub from_next : (a b : Answer) (p : Bool) → (IsTrue (is_true b) → IsTrue p) → IsTrue (is_true (both a b)) → IsTrue p
+pub from_next : (a b : Answer) (p : Bool) → (IsTrue (is_true b) → IsTrue p) → IsTrue (is_true (answer_both a b)) → IsTrue p
 from_next None b p f h = cc
 from_next (Some true) b p f h = f h
 from_next (Some false) b p f h = cc
 
 pub from_either : (a b : Answer) (p : Bool) → (IsTrue (is_true a) → IsTrue p) → (IsTrue (is_true b) → IsTrue p)
-    → IsTrue (is_true (either a b)) → IsTrue p
+    → IsTrue (is_true (answer_either a b)) → IsTrue p
 from_either None b p f g h = cc
 from_either (Some true) b p f g h = f refl
 from_either (Some false) b p f g h = g h
@@ -398,16 +398,16 @@ pub sides_here : (a b t : Bool) → a ≡ b → (a && t) ≡ (b && t)
 sides_here a b t e = ap (λ x. x && t) e
 
 pub guarded_sides : (a b : Answer) (g : Bool) → (g && is_true b) ≡ (is_some a && is_true b)
-    → (is_true a || (g && is_true b)) ≡ is_true (either a b)
+    → (is_true a || (g && is_true b)) ≡ is_true (answer_either a b)
 guarded_sides a b g e = ap (λ x. is_true a || x) e ∙ guarded_by_answer a b
 
-pub guarded_false : (a b : Answer) (g : Bool) → g ≡ is_false a → (is_true a || (g && is_true b)) ≡ is_true (either a b)
+pub guarded_false : (a b : Answer) (g : Bool) → g ≡ is_false a → (is_true a || (g && is_true b)) ≡ is_true (answer_either a b)
 guarded_false a b g e = ap (λ x. is_true a || (x && is_true b)) e ∙ guarded_by_false a b
 
 pub or_with : (z x y w : Bool) → z ≡ (x || y) → y ≡ w → z ≡ (x || w)
 or_with z x y w e f = e ∙ ap (λ b. x || b) f
 
-pub false_guarded_by : (a b : Answer) (g : Bool) → g ≡ is_true a → (is_false a || (g && is_false b)) ≡ is_false (both a b)
+pub false_guarded_by : (a b : Answer) (g : Bool) → g ≡ is_true a → (is_false a || (g && is_false b)) ≡ is_false (answer_both a b)
 false_guarded_by a b g e = ap (λ x. is_false a || (x && is_false b)) e ∙ false_guarded a b
 
 pub last_word : (m : Matches) (word : Code) (s : State) (c : Code) → truth_of m (Last word) s c ≡ same_code c word
@@ -430,11 +430,11 @@ pub not_there : (m : Matches) (list : Name) (id : AttrId) (s : State) (c : Code)
 not_there m list id s c z e = e ∙ ap not (truth_there m list id s c)
 
 pub false_of_both : (a b : Answer) (z f g n : Bool) → z ≡ (f || (g && n)) → f ≡ is_false a → n ≡ is_false b
-    → (is_false a || (g && is_false b)) ≡ is_false (both a b) → z ≡ is_false (both a b)
+    → (is_false a || (g && is_false b)) ≡ is_false (answer_both a b) → z ≡ is_false (answer_both a b)
 false_of_both a b z f g n e x y w = e ∙ ap (λ k. k || (g && n)) x ∙ ap (λ k. is_false a || (g && k)) y ∙ w
 
 pub false_of_either : (a b : Answer) (z f n : Bool) → z ≡ (f && n) → f ≡ is_false a → n ≡ is_false b
-    → z ≡ is_false (either a b)
+    → z ≡ is_false (answer_either a b)
 false_of_either a b z f n e x y = e ∙ ap (λ k. k && n) x ∙ ap (λ k. is_false a && k) y ∙ sym (false_either a b)
 
 -- ---- comparisons with patterns

@@ -16,23 +16,8 @@ use Rattle.avp_unlang.specs.declared.tree.Relation.{Relation}
 use Rattle.avp_unlang.specs.declared.tree.TextComparison.{TextComparison}
 use Rattle.avp_unlang.specs.declared.tree.TextSide.{TextSide}
 use Rattle.avp_unlang.specs.declared.tree.TextSide.TheVariants.{Instance, Text}
+pub use Rattle.server_unlang.specs.Answers.{Answer, answer_both, answer_either, is_false, is_true}
 use Rattle.radpolicy_import_conditions.specs.declared.server_conditions.ServerCondition.{ServerCondition, Constant, Last, Present, Compare, Match, CompareTexts, MatchText, MatchGroup, Captured, Not', And', Or'}
-
--- true or false; nothing where a comparison with an absent attribute is met, which ends the whole condition
-abbrev pub Answer : Type 0
-Answer = Option Bool
-
--- `&&`: the next one is asked where the first is true
-abbrev pub both : Answer → Answer → Answer
-both None next = None
-both (Some false) next = Some false
-both (Some true) next = next
-
--- `||`: the next one is asked where the first is false
-abbrev pub either : Answer → Answer → Answer
-either None next = None
-either (Some true) next = Some true
-either (Some false) next = next
 
 -- two values that are there are compared
 abbrev pub compared : Kind → Relation → Option Value → Option Value → Answer
@@ -72,22 +57,13 @@ answer_with printed (MatchGroup matching) s c = Some (printed.group_matched matc
 answer_with printed (Captured group) s c = Some false
 answer_with printed (Not' p inner) s c = option_map not (answer_with printed inner s c)
 answer_with printed (And' p first q next) s c =
-    both (answer_with printed first s c) (answer_with printed next s c)
+    answer_both (answer_with printed first s c) (answer_with printed next s c)
 answer_with printed (Or' p first q next) s c =
-    either (answer_with printed first s c) (answer_with printed next s c)
+    answer_either (answer_with printed first s c) (answer_with printed next s c)
 
 -- of a condition that compares with no pattern and no texts; a comparison with these that has an answer counts as false
 abbrev pub answer : ServerCondition → State → Code → Answer
 answer = answer_with nothing_printed
-
--- no answer counts as false
-abbrev pub is_true : Answer → Bool
-is_true None = false
-is_true (Some value) = value
-
-abbrev pub is_false : Answer → Bool
-is_false None = false
-is_false (Some value) = not value
 
 -- whether a server takes the branch of a condition that compares with no pattern and no texts
 abbrev pub server_truth : ServerCondition → State → Code → Bool

@@ -339,6 +339,9 @@ impl<'a> ConditionReader<'a> {
         right: Operand<'_>,
     ) -> Result<ServerCondition, Refusal> {
         let is_quoted = matches!(left.quote, Quote::Single | Quote::Double);
+        if left.quote == Quote::Bare && left.octets.first().is_some_and(u8::is_ascii_alphabetic) {
+            return Err(Refusal::LeftOut(Reason::UnknownWord));
+        }
         if !is_quoted || has_expansion(left.octets) || has_expansion(right.octets) {
             return Err(Refusal::LeftOut(Reason::TwoTexts));
         }

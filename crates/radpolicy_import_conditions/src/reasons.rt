@@ -11,6 +11,9 @@ use thiserror::Error;
 pub enum Reason {
     #[error("an attribute that no dictionary has")]
     UnknownAttribute,
+    /// As `&reply: += &session-state:`.
+    #[error("a copy of a whole list")]
+    WholeList,
     #[error("a list that policies do not have")]
     OtherList,
     #[error("a tag")]
@@ -60,6 +63,9 @@ pub enum Reason {
     Cast,
     #[error("a comparison of two texts")]
     TwoTexts,
+    /// A module may define it, as LDAP-Group.
+    #[error("a word that is no attribute's name, compared with a text")]
+    UnknownWord,
     /// A server compares the octets of the digits.
     #[error("a text compared with octets")]
     TextOfOctets,

@@ -98,6 +98,7 @@ fn own_named<'a>(names: &Names<'_>, list: List, name: &'a [u8]) -> Result<Refere
             spelling: Spelling::Word(name),
             named,
         }),
+        None if name.is_empty() => Err(Reason::WholeList),
         None if name.iter().all(|octet| is_name_octet(*octet)) => Err(Reason::UnknownAttribute),
         None => Err(Reason::NoName),
     }

@@ -10,7 +10,7 @@ ghost use Rattle.avp_unlang.specs.Evaluations.{evaluated};
 ghost use Rattle.avp_unlang.specs.Truth.{truth, truth_by};
 ghost use Rattle.avp_unlang.specs.declared.codes.Code.{Code as TheCode};
 ghost use Rattle.radpolicy_import_conditions.specs.Capturing.{keeps_captures, server_evaluated};
-ghost use Rattle.radpolicy_import_conditions.specs.Conditions.{Answer, both, comparison_answer, either, is_false, is_side_there, is_true, matching_answer, server_truth, server_truth_by, texts_answer};
+ghost use Rattle.radpolicy_import_conditions.specs.Conditions.{Answer, answer_both, answer_either, comparison_answer, is_false, is_side_there, is_true, matching_answer, server_truth, server_truth_by, texts_answer};
 ghost use Rattle.radpolicy_import_conditions.specs.internal.Guards.{Matches, answer_of, truth_if, truth_of};
 ghost use Rattle.radpolicy_import_conditions.specs.internal.Rewriting as ours;
 
@@ -233,7 +233,7 @@ fn guard_of(
     ensures truth { IfOk result (λ guard. (m : Matches) (s : State) (c : TheCode)
         → (is_true (answer_of m first.now s c)
         || (truth_if m guard s c && is_true (answer_of m next.now s c)))
-        ≡ is_true (either (answer_of m first.now s c) (answer_of m next.now s c))) }
+        ≡ is_true (answer_either (answer_of m first.now s c) (answer_of m next.now s c))) }
     ensures made { IfOk result (λ guard. guard ≡ ours.guard_of first.now fails_first next.now) }
 {
     if is_certain(first) {
@@ -286,7 +286,7 @@ fn neither(
         ≡ is_false (answer_of m next.now s c) }
     ensures truth { IfOk result (λ cond. (m : Matches) (s : State) (c : TheCode)
         → truth_of m cond s c
-        ≡ is_false (either (answer_of m first.now s c) (answer_of m next.now s c))) }
+        ≡ is_false (answer_either (answer_of m first.now s c) (answer_of m next.now s c))) }
     ensures made { IfOk result (λ cond. cond ≡ ours.both fails_first fails_next) }
 {
     let made = both(alloc, fails_first, fails_next)?;
@@ -300,7 +300,7 @@ fn guard_of_and(first: &ServerCondition, holds_first: Cond) -> Option<Cond>
         ≡ is_true (answer_of m first.now s c) }
     ensures truth { (m : Matches) (s : State) (c : TheCode) (next : Answer)
         → (is_false (answer_of m first.now s c) || (truth_if m result s c && is_false next))
-        ≡ is_false (both (answer_of m first.now s c) next) }
+        ≡ is_false (answer_both (answer_of m first.now s c) next) }
     ensures made { result ≡ ours.guard_of_and first.now holds_first }
 {
     if is_certain(first) {

@@ -5,21 +5,17 @@ ghost use Rattle.radpolicy.specs.Faults.{IsWordFault};
 
 use crate::printing::Format;
 use clap::{Arg, ArgAction, ArgMatches};
-use radpolicy::{Fault, word_fault};
+use radpolicy::Fault;
+use radpolicy_options::{
+    DICTIONARY, FOLDER, HIDE, POLICY, REQUEST, dictionary_files, flag, folder_option, hide_option,
+    matches_of, repeated, valued, words_in,
+};
 use std::alloc::{AllocError, Global};
 use std::convert::AsStr;
-
-const POLICY: &str = "policy";
-
-const REQUEST: &str = "request";
 
 const FORMAT: &str = "format";
 
 const STRICT: &str = "strict";
-
-const HIDE: &str = "hide";
-
-const DICTIONARY: &str = "dictionary";
 
 /// What a command line asks for.
 #[derive(Drop)]
@@ -31,49 +27,23 @@ pub struct Plan<'a> {
     pub strict: bool,
     /// The names of attributes whose values are hidden, beside those that are secret as it is.
     pub hidden: Vec<&'a str>,
+    /// The folder of further dictionaries.
+    pub folder: Option<&'a str>,
     /// Dictionary files, the main one first.
     pub dictionaries: Vec<&'a str>,
 }
 
-fn repeated<'a>(alloc: Global, name: &'a str, value: &'a str, help: &'a str) -> Arg<'a> {
-    Arg::new(alloc, name)
-        .value_name(value)
-        .action(ArgAction::Append)
-        .help(help)
-}
-
 fn format_option<'a>(alloc: Global) -> Arg<'a> {
-    Arg::new(alloc, FORMAT)
-        .long(FORMAT)
-        .value_name("FORMAT")
-        .action(ArgAction::Set)
-        .help("text (with help), gcc (a line each, as compilers write them) or json")
+    let help = "text (with help), gcc (a line each, as compilers write them) or json";
+    valued(alloc, FORMAT, "FORMAT", help)
 }
 
-fn strict_option<'a>(alloc: Global) -> Arg<'a> {
-    Arg::new(alloc, STRICT)
-        .long(STRICT)
-        .action(ArgAction::SetTrue)
-        .help("Ends with status 1 where there is a warning")
-}
-
-fn hide_option<'a>(alloc: Global) -> Arg<'a> {
-    repeated(
-        alloc,
-        HIDE,
-        "NAME",
-        "Hides the values of this attribute as well; more than once for several",
-    )
-    .long(HIDE)
-}
-
-fn dictionary_files<'a>(alloc: Global) -> Arg<'a> {
-    Arg::new(alloc, DICTIONARY)
-        .required(true)
-        .value_name("DICTIONARY")
-        .num_args(1..)
+fn request_option<'a>(alloc: Global) -> Arg<'a> {
+    Arg::new(alloc, REQUEST)
+        .short('f')
+        .value_name("REQUEST")
         .action(ArgAction::Append)
-        .help("Dictionary files, the main one first")
+        .help("A request of lines to look at")
 }
 
 fn program<'a>(alloc: Global) -> Result<clap::Command<'a>, AllocError> {
@@ -87,24 +57,13 @@ fn program<'a>(alloc: Global) -> Result<clap::Command<'a>, AllocError> {
             POLICY,
             "POLICY",
             "A policy to look at; more than once for several",
-        )
-        .long(POLICY))?
-        .arg(repeated(alloc, REQUEST, "REQUEST", "A request of lines to look at").short('f'))?
+        ))?
+        .arg(request_option(alloc))?
         .arg(format_option(alloc))?
-        .arg(strict_option(alloc))?
+        .arg(flag(alloc, STRICT, "Ends with status 1 where there is a warning"))?
         .arg(hide_option(alloc))?
+        .arg(folder_option(alloc))?
         .arg(dictionary_files(alloc))
-}
-
-fn all_of<'a>(
-    alloc: Global,
-    found: &ArgMatches<'a>,
-    name: &str,
-) -> Result<Vec<&'a str>, AllocError> {
-    match found.get_strs(name) {
-        Some(words) => Vec::from_slice(alloc, words),
-        None => Ok(Vec::new(alloc)),
-    }
 }
 
 fn format_named(word: Option<&str>) -> Option<Format> {
@@ -123,12 +82,13 @@ fn plan_of<'a>(alloc: Global, found: &ArgMatches<'a>) -> Result<Plan<'a>, Fault>
         return Err(Fault::OptionValue);
     };
     Ok(Plan {
-        policies: all_of(alloc, found, POLICY)?,
-        requests: all_of(alloc, found, REQUEST)?,
+        policies: words_in(alloc, found, POLICY)?,
+        requests: words_in(alloc, found, REQUEST)?,
         format,
         strict: found.get_flag(STRICT),
-        hidden: all_of(alloc, found, HIDE)?,
-        dictionaries: all_of(alloc, found, DICTIONARY)?,
+        hidden: words_in(alloc, found, HIDE)?,
+        folder: found.get_str(FOLDER),
+        dictionaries: words_in(alloc, found, DICTIONARY)?,
     })
 }
 
@@ -141,9 +101,7 @@ fn refusal_of(_found: &ArgMatches<'_>) -> &'static str {
 pub fn read_words<'a, S: AsStr>(alloc: Global, words: &'a [S]) -> Result<Plan<'a>, Fault>
     ensures { IfErr result IsWordFault }
 {
-    let matches = program(alloc)?
-        .try_get_matches_from(words)
-        .map_err(|error| word_fault(&error))?;
+    let matches = matches_of(program(alloc)?, words)?;
     plan_of(alloc, &matches)
 }
 

@@ -8,7 +8,8 @@ use avp_lists::AttrId;
 use avp_unlang::{PolicyKind, read_policy};
 use radpolicy::{Fault, status};
 use radpolicy_help::{
-    Finding, Source, Sources, UnreadSecrets, explain, explain_by, findings, without_statement,
+    Finding, Source, Sources, UnreadSecrets, explain, explain_by, findings, split_place,
+    without_statement,
 };
 use std::alloc::{AllocError, Global};
 
@@ -60,18 +61,12 @@ const NOTHING: Source<'static> = Source {
 
 // The column at the end of the first line of a fault's help, `PATH:LINE:COLUMN`, and the lines below it.
 fn column_and_help(help: &[u8]) -> (&str, &[u8]) {
-    let mut parts = help.splitn(2, |octet| *octet == b'\n');
-    let place = parts.next().unwrap_or(&[]);
-    let below = parts.next().unwrap_or(&[]);
+    let (place, below) = split_place(help);
     let digits = match place.iter().rposition(|octet| *octet == b':') {
         Some(at) => place.get(at.saturating_add(1)..).unwrap_or(&[]),
         None => &[],
     };
-    if !digits.is_empty() && digits.iter().all(u8::is_ascii_digit) {
-        (str::from_utf8(digits).unwrap_or(""), below)
-    } else {
-        ("", help)
-    }
+    (str::from_utf8(digits).unwrap_or(""), below)
 }
 
 // The line of a fault in its file; 0 where it has none.

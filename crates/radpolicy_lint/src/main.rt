@@ -13,12 +13,14 @@ use crate::linting::{Found, Linter, Reading};
 use avp_dict::{Dictionary, FileSet};
 use radpolicy::Fault;
 use radpolicy_common::{
-    Unread, command_words, named_attributes, read_dictionary_set, read_file, refuse_early,
-    show_help,
+    Unread, command_words, dictionaries_meant, lent_paths, named_attributes, read_dictionary_set,
+    read_file, refuse_early, show_help,
 };
 use radpolicy_help::{refuse_name, refuse_unread_explained, refuse_words_of};
 use std::alloc::AllocError;
 use std::process::ExitCode;
+
+const PROGRAM: &str = "radpolicy-lint";
 
 // Adds what is found in a policy's file.
 fn lint_policy<'a>(
@@ -73,7 +75,7 @@ fn lint_by(
 ) -> Result<u8, AllocError> {
     let hidden = match named_attributes(rt.alloc(), dictionary, &linter.plan.hidden)? {
         Ok(ids) => ids,
-        Err(name) => return Ok(refuse_name(rt, dictionary, name)),
+        Err(name) => return Ok(refuse_name(rt, PROGRAM, dictionary, name)),
     };
     let reading = Reading {
         dictionary,
@@ -102,31 +104,50 @@ fn lint_set(rt: &HostRuntime, plan: &Plan<'_>, files: &FileSet) -> Result<u8, Al
 fn show(rt: &HostRuntime, found: &Found) -> u8 {
     match rt.stdout().write_all(&found.text) {
         Ok(()) => found.status,
-        Err(_) => refuse_early(rt, &Fault::Write),
+        Err(_) => refuse_early(rt, PROGRAM, &Fault::Write),
     }
 }
 
 fn lint_plan(rt: &HostRuntime, plan: &Plan<'_>) -> u8 {
     let files = match read_dictionary_set(rt, &plan.dictionaries) {
         Ok(files) => files,
-        Err(unread) => return refuse_unread_explained(rt, unread),
+        Err(unread) => return refuse_unread_explained(rt, PROGRAM, unread),
     };
     match lint_set(rt, plan, &files) {
         Ok(code) => code,
-        Err(_) => refuse_early(rt, &Fault::Memory),
+        Err(_) => refuse_early(rt, PROGRAM, &Fault::Memory),
+    }
+}
+
+// What is found by the words, with the dictionaries that they mean.
+fn lint_by_meant<'a>(rt: &HostRuntime, words: &'a [String], paths: &'a [String]) -> u8 {
+    let Ok(lent) = lent_paths(rt.alloc(), paths) else {
+        return refuse_early(rt, PROGRAM, &Fault::Memory);
+    };
+    match read_words(rt.alloc(), words) {
+        Ok(plan) => {
+            let mut meant = plan;
+            meant.dictionaries = lent;
+            lint_plan(rt, &meant)
+        }
+        // The words were read before, so only memory is wanting.
+        Err(_) => refuse_early(rt, PROGRAM, &Fault::Memory),
     }
 }
 
 fn lint_words(rt: &HostRuntime, words: &[String]) -> u8 {
     match read_words(rt.alloc(), words) {
-        Ok(plan) => lint_plan(rt, &plan),
-        Err(Fault::Help) => show_help(rt, help_text(rt.alloc(), words)),
-        Err(fault) => refuse_words_of(rt, &fault, "radpolicy-lint", help_text(rt.alloc(), words)),
+        Ok(plan) => match dictionaries_meant(rt, &plan.dictionaries, plan.folder) {
+            Ok(paths) => lint_by_meant(rt, words, &paths),
+            Err(_) => refuse_early(rt, PROGRAM, &Fault::Memory),
+        },
+        Err(Fault::Help) => show_help(rt, PROGRAM, help_text(rt.alloc(), words)),
+        Err(fault) => refuse_words_of(rt, &fault, PROGRAM, help_text(rt.alloc(), words)),
     }
 }
 
 fn main(rt: HostRuntime) -> ExitCode {
-    let code = match command_words(&rt) {
+    let code = match command_words(&rt, PROGRAM) {
         Ok(words) => lint_words(&rt, words.as_slice()),
         Err(code) => code,
     };

@@ -2,6 +2,7 @@
 
 use itoa::Buffer;
 use radpolicy_common::{Escaping, LineBreaks, push_json_string, visible_text};
+use radpolicy_help::sentences;
 use std::alloc::AllocError;
 
 /// The form of the output.
@@ -54,7 +55,7 @@ fn push_number(out: &mut Vec<u8>, number: usize) -> Result<(), AllocError> {
 }
 
 // `PATH:LINE:COLUMN: error: TEXT [NAME]`.
-fn push_line(out: &mut Vec<u8>, note: &Note<'_>) -> Result<(), AllocError> {
+fn push_line(out: &mut Vec<u8>, note: &Note<'_>, text: &[u8]) -> Result<(), AllocError> {
     push(out, note.path)?;
     push(out, ":")?;
     if note.line > 0 {
@@ -68,10 +69,19 @@ fn push_line(out: &mut Vec<u8>, note: &Note<'_>) -> Result<(), AllocError> {
     push(out, " ")?;
     push(out, level_name(note.level))?;
     push(out, ": ")?;
-    push(out, note.text)?;
+    out.extend_from_slice(text)?;
     push(out, " [")?;
     push(out, note.name)?;
     push(out, "]\n")
+}
+
+// The line of a note that has no other: of a fault it says what the help does, if there is any.
+fn push_line_alone(out: &mut Vec<u8>, note: &Note<'_>) -> Result<(), AllocError> {
+    let said = sentences(*out.allocator(), note.help)?;
+    match said.strip_prefix(b": ") {
+        Some(said) if note.level == Level::Error => push_line(out, note, said),
+        _ => push_line(out, note, note.text.as_bytes()),
+    }
 }
 
 // What helps, with blanks before each line.
@@ -120,9 +130,11 @@ pub fn push_note(out: &mut Vec<u8>, format: Format, note: &Note<'_>) -> Result<(
         return push_json(out, note);
     }
     let mut text = Vec::new(alloc);
-    push_line(&mut text, note)?;
     if format == Format::Text {
+        push_line(&mut text, note, note.text.as_bytes())?;
         push_help(&mut text, note.help)?;
+    } else {
+        push_line_alone(&mut text, note)?;
     }
     out.extend_from_slice(&visible_text(alloc, &text, LineBreaks::Kept)?)
 }

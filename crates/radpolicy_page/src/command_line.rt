@@ -3,42 +3,25 @@
 ghost use Rattle.std.specs.Prelude.{IfErr};
 ghost use Rattle.radpolicy.specs.Faults.{IsWordFault};
 
-use avp_forms::offset_spelled;
-use clap::{Arg, ArgAction, ArgMatches};
-use radpolicy::{Fault, Form, word_fault};
+use clap::{Arg, ArgMatches};
+use radpolicy::{Fault, Form};
 use radpolicy_common::SecretValues;
+use radpolicy_options::{
+    ACCOUNTING, CONTROL, DICTIONARY, FOLDER, HEX, HIDE, POLICY, REPLY, REQUEST, SECRET,
+    SHOW_SECRETS, accounting_flag, control_option, dictionary_files, flag, folder_option, hex_flag,
+    hide_option, lettered, matches_of, record_in, record_option, reply_option, server_in,
+    server_option, shown_secrets, valued, words_in, zone_in, zone_option,
+};
 use std::alloc::{AllocError, Global};
 use std::convert::AsStr;
 
-const REQUEST: &str = "request";
-
-const POLICY: &str = "policy";
-
-const HEX: &str = "hex";
-
-const ACCOUNTING: &str = "acct";
-
 const IDENTIFIER: &str = "identifier";
 
-const SECRET: &str = "secret";
-
 const AUTHENTICATOR: &str = "authenticator";
-
-const REPLY: &str = "reply";
-
-const CONTROL: &str = "control";
-
-const ZONE: &str = "zone";
 
 const OUTPUT: &str = "output";
 
 const FORCE: &str = "force";
-
-const SHOW_SECRETS: &str = "show-secrets";
-
-const HIDE: &str = "hide";
-
-const DICTIONARY: &str = "dictionary";
 
 /// What a command line asks for.
 #[derive(Drop)]
@@ -49,6 +32,10 @@ pub struct Plan<'a> {
     pub authenticator: Option<[u8; 16]>,
     /// The request's file; standard input where there is none.
     pub request: Option<&'a str>,
+    /// The name of the record that is the request, where the file has several.
+    pub record: Option<&'a str>,
+    /// The virtual server to which the record's request goes, where it comes out of a tunnel.
+    pub server: Option<&'a str>,
     pub policy: &'a str,
     pub secret: Option<&'a str>,
     pub reply: Option<&'a str>,
@@ -62,83 +49,39 @@ pub struct Plan<'a> {
     pub secrets: SecretValues,
     /// The names of attributes that are hidden as well.
     pub hidden: Vec<&'a str>,
+    /// The folder of further dictionaries.
+    pub folder: Option<&'a str>,
     pub dictionaries: Vec<&'a str>,
-}
-
-fn file_option<'a>(alloc: Global, name: &'a str, value_name: &'a str, help: &'a str) -> Arg<'a> {
-    Arg::new(alloc, name)
-        .value_name(value_name)
-        .action(ArgAction::Set)
-        .help(help)
-}
-
-fn flag<'a>(alloc: Global, name: &'a str, help: &'a str) -> Arg<'a> {
-    Arg::new(alloc, name)
-        .long(name)
-        .action(ArgAction::SetTrue)
-        .help(help)
 }
 
 fn request_option<'a>(alloc: Global) -> Arg<'a> {
     let help = "The request [default: standard input]";
-    file_option(alloc, REQUEST, "REQUEST", help).short('f')
+    lettered(alloc, REQUEST, 'f', "REQUEST", help)
 }
 
 fn identifier_option<'a>(alloc: Global) -> Arg<'a> {
     let help = "The packet's Identifier, 0 to 255 [default: 0]";
-    file_option(alloc, IDENTIFIER, "NUMBER", help).short('i')
+    lettered(alloc, IDENTIFIER, 'i', "NUMBER", help)
 }
 
 fn secret_option<'a>(alloc: Global) -> Arg<'a> {
     let help = "The file whose first line is the shared secret; the page then has the reply packet";
-    file_option(alloc, SECRET, "SECRET-FILE", help).short('S')
+    lettered(alloc, SECRET, 'S', "SECRET-FILE", help)
 }
 
 fn authenticator_option<'a>(alloc: Global) -> Arg<'a> {
     let help = "The Request Authenticator, 32 hexadecimal digits; \
         needed with -S for request lines, refused with --acct";
-    file_option(alloc, AUTHENTICATOR, "HEX", help).long(AUTHENTICATOR)
+    valued(alloc, AUTHENTICATOR, "HEX", help)
 }
 
 fn policy_option<'a>(alloc: Global) -> Arg<'a> {
-    file_option(alloc, POLICY, "POLICY", "The policy")
-        .long(POLICY)
-        .required(true)
-}
-
-fn reply_option<'a>(alloc: Global) -> Arg<'a> {
-    file_option(alloc, REPLY, "LINES", "The reply list's first pairs").long(REPLY)
-}
-
-fn control_option<'a>(alloc: Global) -> Arg<'a> {
-    file_option(alloc, CONTROL, "LINES", "The control list's first pairs").long(CONTROL)
-}
-
-fn zone_option<'a>(alloc: Global) -> Arg<'a> {
-    let help = "What a date's zone other than UTC stands for, as +01:00";
-    file_option(alloc, ZONE, "OFFSET", help).long(ZONE)
+    valued(alloc, POLICY, "POLICY", "The policy").required(true)
 }
 
 fn output_option<'a>(alloc: Global) -> Arg<'a> {
     let help = "The page's file [default: standard output]";
-    file_option(alloc, OUTPUT, "FILE", help).short('o')
-}
-
-fn hide_option<'a>(alloc: Global) -> Arg<'a> {
-    Arg::new(alloc, HIDE)
-        .long(HIDE)
-        .value_name("NAME")
-        .action(ArgAction::Append)
-        .help("Hides the values of an attribute too; may be given more than once")
-}
-
-fn dictionary_files<'a>(alloc: Global) -> Arg<'a> {
-    Arg::new(alloc, DICTIONARY)
-        .required(true)
-        .value_name("DICTIONARY")
-        .num_args(1..)
-        .action(ArgAction::Append)
-        .help("Dictionary files, the main one first, as in /usr/share/freeradius/dictionary*")
+    lettered(alloc, OUTPUT, 'o', "FILE", help)
 }
 
 fn program<'a>(alloc: Global) -> Result<clap::Command<'a>, AllocError> {
@@ -147,16 +90,10 @@ fn program<'a>(alloc: Global) -> Result<clap::Command<'a>, AllocError> {
         .about("Writes an HTML page in which one steps through the run of a policy")
         .after_help("Passwords and keys, and what a policy copies of them, are hidden in the page.")
         .arg(request_option(alloc))?
-        .arg(flag(
-            alloc,
-            HEX,
-            "The request is a packet in hexadecimal digits; needs -S",
-        ))?
-        .arg(flag(
-            alloc,
-            ACCOUNTING,
-            "The request lines are an Accounting-Request, not an Access-Request",
-        ))?
+        .arg(record_option(alloc))?
+        .arg(server_option(alloc))?
+        .arg(hex_flag(alloc))?
+        .arg(accounting_flag(alloc))?
         .arg(identifier_option(alloc))?
         .arg(secret_option(alloc))?
         .arg(authenticator_option(alloc))?
@@ -172,6 +109,7 @@ fn program<'a>(alloc: Global) -> Result<clap::Command<'a>, AllocError> {
         ))?
         .arg(flag(alloc, SHOW_SECRETS, "Shows passwords and keys"))?
         .arg(hide_option(alloc))?
+        .arg(folder_option(alloc))?
         .arg(dictionary_files(alloc))
 }
 
@@ -214,60 +152,42 @@ fn authenticator_of(found: &ArgMatches<'_>) -> Result<Option<[u8; 16]>, Fault>
     Ok(Some(authenticator))
 }
 
-fn zone_of(found: &ArgMatches<'_>) -> Result<Option<i16>, Fault>
-    ensures { IfErr result IsWordFault }
-{
-    let Some(word) = found.get_str(ZONE) else {
-        return Ok(None);
-    };
-    match offset_spelled(word.as_bytes()) {
-        Some(offset) => Ok(Some(offset)),
-        None => Err(Fault::OptionValue),
-    }
-}
-
-fn shown_secrets(found: &ArgMatches<'_>) -> SecretValues {
-    if found.get_flag(SHOW_SECRETS) {
-        SecretValues::Shown
-    } else {
-        SecretValues::Hidden
-    }
-}
-
-fn hidden_names<'a>(alloc: Global, found: &ArgMatches<'a>) -> Result<Vec<&'a str>, AllocError> {
-    match found.get_strs(HIDE) {
-        Some(names) => Vec::from_slice(alloc, names),
-        None => Ok(Vec::new(alloc)),
-    }
-}
-
 fn plan_of<'a>(alloc: Global, found: &ArgMatches<'a>) -> Result<Plan<'a>, Fault>
     ensures { IfErr result IsWordFault }
 {
-    let files = found.get_strs(DICTIONARY).ok_or(Fault::Usage)?;
+    let form = form_of(found)?;
     Ok(Plan {
-        form: form_of(found)?,
+        form,
         identifier: identifier_of(found)?,
         authenticator: authenticator_of(found)?,
         request: found.get_str(REQUEST),
+        record: record_in(found, form)?,
+        server: server_in(found, form)?,
         policy: found.get_str(POLICY).ok_or(Fault::Usage)?,
         secret: found.get_str(SECRET),
         reply: found.get_str(REPLY),
         control: found.get_str(CONTROL),
-        zone: zone_of(found)?,
+        zone: zone_in(found)?,
         output: found.get_str(OUTPUT),
         is_forced: found.get_flag(FORCE),
         secrets: shown_secrets(found),
-        hidden: hidden_names(alloc, found)?,
-        dictionaries: Vec::from_slice(alloc, files)?,
+        hidden: words_in(alloc, found, HIDE)?,
+        folder: found.get_str(FOLDER),
+        dictionaries: words_in(alloc, found, DICTIONARY)?,
     })
 }
 
 // What is wrong with words that are options and their values, if they are refused.
 fn refusal_of(found: &ArgMatches<'_>) -> &'static str {
-    if form_of(found).is_err() {
+    let Ok(form) = form_of(found) else {
         return "--hex needs -S and the file that has the client's secret, and goes without --acct, -i and --authenticator; \
             for request lines -S needs --authenticator and 32 hexadecimal digits; --acct goes without --authenticator\n";
+    };
+    if record_in(found, form).is_err() {
+        return "--record goes without --acct\n";
+    }
+    if server_in(found, form).is_err() {
+        return "--server goes with --record, without --hex and --acct\n";
     }
     if identifier_of(found).is_err() {
         return "-i takes a number from 0 to 255\n";
@@ -282,9 +202,7 @@ fn refusal_of(found: &ArgMatches<'_>) -> &'static str {
 pub fn read_words<'a, S: AsStr>(alloc: Global, words: &'a [S]) -> Result<Plan<'a>, Fault>
     ensures { IfErr result IsWordFault }
 {
-    let matches = program(alloc)?
-        .try_get_matches_from(words)
-        .map_err(|error| word_fault(&error))?;
+    let matches = matches_of(program(alloc)?, words)?;
     plan_of(alloc, &matches)
 }
 

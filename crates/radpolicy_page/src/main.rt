@@ -6,7 +6,7 @@ mod fixed_page;
 mod sources;
 mod writing;
 
-ghost use Rattle.std.specs.Prelude.{◌<◌, IfErr, IfOk, length};
+ghost use Rattle.std.specs.Prelude.{◌≡◌, ◌<◌, IfErr, IfOk, length};
 ghost use Rattle.avp_dict.specs.Lines.{HasDistinctNames};
 ghost use Rattle.radpolicy.specs.Faults.{IsPrintedAnywhere, IsPrintedWith};
 
@@ -16,14 +16,17 @@ use crate::writing::{PROGRAM, write_page};
 use avp_dict::{Dictionary, FileSet};
 use avp_forms::Profile;
 use avp_lists::{AttrId, Octets};
-use hex::FromHexError;
-use radpolicy::{Fault, Form, PreparedPolicy, RequestHead, RequestKind, Secret, Start, status};
-use radpolicy_common::{
-    Hiding, Unread, command_words, named_attributes, read_dictionary_set, read_file, read_optional,
-    read_standard_input, refuse_early, refuse_outputs, show_help,
+use radpolicy::{
+    Fault, Form, PreparedPolicy, RequestHead, RequestKind, Secret, Start, hex_octets, status,
 };
-use radpolicy_help::{refuse_name, refuse_unread_explained, refuse_words_of};
+use radpolicy_common::{
+    Hiding, Unread, command_words, dictionaries_meant, file_kind, lent_paths, named_attributes,
+    read_dictionary_set, read_file, read_optional, read_standard_input, refuse_early, refuse_kind,
+    refuse_outputs, show_help,
+};
+use radpolicy_help::{STANDARD_INPUT, refuse_name, refuse_unread_explained, refuse_words_of};
 use radpolicy_page_data::{Page, PageFault, page_of};
+use radpolicy_record_answers::{AskedRecord, RecordedRequest, Search, find_record, search_text};
 use std::alloc::{AllocError, Global};
 use std::process::ExitCode;
 
@@ -60,37 +63,51 @@ fn read_files<'a>(rt: &HostRuntime, plan: &Plan<'a>) -> Result<Files, Unread<'a>
     })
 }
 
-fn without_white_space(alloc: Global, text: &[u8]) -> Result<Vec<u8>, AllocError> {
-    let mut digits = Vec::new(alloc);
-    for octet in text {
-        if !matches!(*octet, b' ' | b'\t' | b'\r' | b'\n') {
-            digits.push(*octet)?;
-        }
-    }
-    Ok(digits)
-}
-
 // The octets of a packet in hexadecimal digits.
 fn packet_octets(alloc: Global, text: &[u8]) -> Result<Vec<u8>, Fault>
     ensures { IfErr result IsPrintedAnywhere }
 {
-    let digits = without_white_space(alloc, text)?;
-    match hex::decode(alloc, digits) {
-        Ok(octets) => Ok(octets),
-        Err(FromHexError::OutOfMemory) => Err(Fault::Memory),
-        Err(_) => Err(Fault::NotHex),
+    match hex_octets(alloc, text)? {
+        Some(octets) => Ok(octets),
+        None => Err(Fault::NotHex),
     }
 }
 
-// The head of a request of lines.
+// Puts the request of a record in the place of the file's text, and the lists that it begins with where no file has
+// them; and says how the request is given.
+fn take_record(files: &mut Files, record: RecordedRequest) -> Form
+    ensures { files.new.dictionary ≡ files.old.dictionary }
+{
+    let RecordedRequest {
+        form,
+        text,
+        reply,
+        control,
+        title: _,
+    } = record;
+    files.request = Octets::from_vec(text);
+    if files.reply.is_none() {
+        files.reply = Some(Octets::from_vec(reply));
+    }
+    if files.control.is_none() {
+        files.control = Some(Octets::from_vec(control));
+    }
+    form
+}
+
+// The head of a request of lines. An authenticator is that of an Access-Request.
 fn head_by(plan: &Plan<'_>) -> RequestHead {
-    RequestHead {
-        kind: match plan.form {
-            Form::Accounting => RequestKind::Accounting,
-            Form::Access | Form::Hex => RequestKind::Access,
+    match plan.form {
+        Form::Accounting => RequestHead {
+            kind: RequestKind::Accounting,
+            id: plan.identifier,
+            authenticator: None,
         },
-        id: plan.identifier,
-        authenticator: plan.authenticator,
+        Form::Access | Form::Hex => RequestHead {
+            kind: RequestKind::Access,
+            id: plan.identifier,
+            authenticator: plan.authenticator,
+        },
     }
 }
 
@@ -199,7 +216,7 @@ fn show_files(rt: &HostRuntime, plan: &Plan<'_>, files: &Files) -> Result<u8, Fa
     let dictionary = Dictionary::read(alloc, &files.dictionary)?;
     let given = match named_attributes(alloc, &dictionary, &plan.hidden)? {
         Ok(given) => given,
-        Err(name) => return Ok(refuse_name(rt, &dictionary, name)),
+        Err(name) => return Ok(refuse_name(rt, PROGRAM, &dictionary, name)),
     };
     let page = page_with(alloc, &dictionary, plan, files, &given)?;
     Ok(show_page(rt, plan, page))
@@ -211,7 +228,7 @@ fn show_page(rt: &HostRuntime, plan: &Plan<'_>, page: Result<Page, PageFault>) -
             Ok(()) => 0,
             Err(fault) => refuse_outputs(rt, PROGRAM, &fault),
         },
-        Err(PageFault::Memory) => refuse_early(rt, &Fault::Memory),
+        Err(PageFault::Memory) => refuse_early(rt, PROGRAM, &Fault::Memory),
         Err(PageFault::TooLarge) => {
             let _ = eprintln!(rt;
                 "radpolicy-page: the run is too long for a page; nothing is written"
@@ -221,27 +238,73 @@ fn show_page(rt: &HostRuntime, plan: &Plan<'_>, page: Result<Page, PageFault>) -
     }
 }
 
-fn show_plan(rt: &HostRuntime, plan: &Plan<'_>) -> u8 {
-    let files = match read_files(rt, plan) {
+// Says why the record of this name is not the request.
+fn refuse_record(rt: &HostRuntime, plan: &Plan<'_>, name: &str, search: &Search) -> u8 {
+    let _ = eprint!(rt; "{PROGRAM}: ");
+    let path = plan.request.unwrap_or(STANDARD_INPUT);
+    if let Ok(said) = search_text(rt.alloc(), path, name, search) {
+        let _ = rt.stderr().write_all(&said);
+    }
+    status(&Fault::OptionValue)
+}
+
+// Shows the page of a plan whose request is a record, where it names one.
+fn show_plan(rt: &HostRuntime, plan: Plan<'_>) -> u8 {
+    let mut files = match read_files(rt, &plan) {
         Ok(files) => files,
-        Err(unread) => return refuse_unread_explained(rt, unread),
+        Err(unread) => return refuse_unread_explained(rt, PROGRAM, unread),
     };
-    match show_files(rt, plan, &files) {
+    if let Some(kind) = file_kind(files.request.as_slice()) {
+        return refuse_kind(rt, PROGRAM, plan.request.unwrap_or(STANDARD_INPUT), kind);
+    }
+    let mut plan = plan;
+    if let Some(name) = plan.record {
+        let asked = AskedRecord {
+            form: plan.form,
+            name,
+            server: plan.server,
+        };
+        match find_record(rt.alloc(), files.request.as_slice(), asked) {
+            Ok(Search::Found(record)) => plan.form = take_record(&mut files, record),
+            Ok(search) => return refuse_record(rt, &plan, name, &search),
+            Err(_) => return refuse_early(rt, PROGRAM, &Fault::Memory),
+        }
+    }
+    match show_files(rt, &plan, &files) {
         Ok(status) => status,
-        Err(fault) => refuse_files(rt, plan, &files, &fault),
+        Err(fault) => refuse_files(rt, &plan, &files, &fault),
+    }
+}
+
+// The page that the words ask for, with the dictionaries that they mean.
+fn show_by_meant<'a>(rt: &HostRuntime, words: &'a [String], paths: &'a [String]) -> u8 {
+    let Ok(lent) = lent_paths(rt.alloc(), paths) else {
+        return refuse_early(rt, PROGRAM, &Fault::Memory);
+    };
+    match read_words(rt.alloc(), words) {
+        Ok(plan) => {
+            let mut meant = plan;
+            meant.dictionaries = lent;
+            show_plan(rt, meant)
+        }
+        // The words were read before, so only memory is wanting.
+        Err(_) => refuse_early(rt, PROGRAM, &Fault::Memory),
     }
 }
 
 fn obey_words(rt: &HostRuntime, words: &[String]) -> u8 {
     match read_words(rt.alloc(), words) {
-        Ok(plan) => show_plan(rt, &plan),
-        Err(Fault::Help) => show_help(rt, help_text(rt.alloc(), words)),
+        Ok(plan) => match dictionaries_meant(rt, &plan.dictionaries, plan.folder) {
+            Ok(paths) => show_by_meant(rt, words, &paths),
+            Err(_) => refuse_early(rt, PROGRAM, &Fault::Memory),
+        },
+        Err(Fault::Help) => show_help(rt, PROGRAM, help_text(rt.alloc(), words)),
         Err(fault) => refuse_words_of(rt, &fault, PROGRAM, help_text(rt.alloc(), words)),
     }
 }
 
 fn main(rt: HostRuntime) -> ExitCode {
-    let code = match command_words(&rt) {
+    let code = match command_words(&rt, PROGRAM) {
         Ok(words) => obey_words(&rt, words.as_slice()),
         Err(code) => code,
     };

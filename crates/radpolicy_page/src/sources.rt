@@ -4,6 +4,7 @@ ghost use Rattle.radpolicy.specs.Faults.{IsPrintedWith};
 
 use crate::Files;
 use crate::command_line::Plan;
+use crate::writing::PROGRAM;
 use avp_lists::Octets;
 use radpolicy::Fault;
 use radpolicy_help::{STANDARD_INPUT, Source, Sources, refuse_explained};
@@ -52,5 +53,5 @@ pub fn refuse_files(rt: &HostRuntime, plan: &Plan<'_>, files: &Files, fault: &Fa
     requires { IsPrintedWith files.now.dictionary fault.now }
 {
     let sources = sources_of(plan, files, fault);
-    refuse_explained(rt, fault, &files.dictionary, &sources)
+    refuse_explained(rt, PROGRAM, fault, &files.dictionary, &sources)
 }

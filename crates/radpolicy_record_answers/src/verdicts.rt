@@ -16,4 +16,6 @@ pub enum Verdict {
     /// The line has no packet, or the packet was not taken, by both policies where two are compared; or what was
     /// captured is no reply to it.
     Refused,
+    /// It was not asked for, and the policy did not run.
+    LeftOut,
 }

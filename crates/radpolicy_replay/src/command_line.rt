@@ -3,53 +3,23 @@
 ghost use Rattle.std.specs.Prelude.{IfErr};
 ghost use Rattle.radpolicy.specs.Faults.{IsWordFault};
 
+use crate::options::{
+    AGAINST, ALL, CLIENTS, EXPECT, FORMAT, IGNORE, JSON, NO_SECRET, ONLY, ORDERED, SHOW,
+    SHOW_REPLIES, STRICT, TAP, TO_HEX, program,
+};
 use crate::traffic::Traffic;
-use avp_forms::offset_spelled;
-use clap::{Arg, ArgAction, ArgMatches};
-use radpolicy::{Fault, word_fault};
+use clap::ArgMatches;
+use radpolicy::Fault;
 use radpolicy_common::SecretValues;
+use radpolicy_options::{
+    DICTIONARY, FOLDER, HIDE, POLICY, SECRET, SERVER, SHOW_SECRETS, matches_of, shown_secrets,
+    words_in, zone_in,
+};
 use radpolicy_record_answers::{Order, Told};
 use radpolicy_replay_records::Layout;
+use radpolicy_traffic::Format;
 use std::alloc::{AllocError, Global};
 use std::convert::AsStr;
-
-const POLICY: &str = "policy";
-
-const AGAINST: &str = "against";
-
-const ORDERED: &str = "ordered";
-
-const IGNORE: &str = "ignore";
-
-const ALL: &str = "all";
-
-const SHOW_REPLIES: &str = "show-replies";
-
-const STRICT: &str = "strict";
-
-const EXPECT: &str = "expect";
-
-const TAP: &str = "tap";
-
-const JSON: &str = "json";
-
-const TO_HEX: &str = "to-hex";
-
-const SECRET: &str = "secret";
-
-const CLIENTS: &str = "clients";
-
-const NO_SECRET: &str = "no-secret";
-
-const FORMAT: &str = "format";
-
-const ZONE: &str = "zone";
-
-const SHOW_SECRETS: &str = "show-secrets";
-
-const HIDE: &str = "hide";
-
-const DICTIONARY: &str = "dictionary";
 
 /// The word for the replies that were captured; a file of this name is `./captured`.
 const CAPTURED: &str = "captured";
@@ -101,6 +71,10 @@ pub struct Plan<'a> {
     pub comparison: Option<ComparisonPlan<'a>>,
     pub strict: bool,
     pub layout: Layout,
+    /// Attributes whose values in the requests are shown.
+    pub shown: Vec<&'a str>,
+    /// The code of the captured replies whose records are taken; `None`: all are.
+    pub only: Option<u8>,
     /// An earlier output, with which this one is compared.
     pub expected: Option<&'a str>,
     pub secret: SecretPlan<'a>,
@@ -109,8 +83,12 @@ pub struct Plan<'a> {
     pub hidden: Vec<&'a str>,
     /// `None`: told from the input.
     pub traffic: Option<Traffic>,
+    /// The virtual server to which the requests go, where they come out of tunnels.
+    pub server: Option<&'a str>,
     /// How many minutes the clocks of a zone other than UTC that a date names are before UTC's.
     pub zone: Option<i16>,
+    /// The folder of further dictionaries.
+    pub folder: Option<&'a str>,
     pub dictionaries: Vec<&'a str>,
 }
 
@@ -119,7 +97,11 @@ pub struct Plan<'a> {
 pub struct PacketsPlan<'a> {
     pub secret: SecretPlan<'a>,
     pub traffic: Option<Traffic>,
+    /// The virtual server to which the requests go, where they come out of tunnels.
+    pub server: Option<&'a str>,
     pub zone: Option<i16>,
+    /// The folder of further dictionaries.
+    pub folder: Option<&'a str>,
     pub dictionaries: Vec<&'a str>,
 }
 
@@ -137,198 +119,6 @@ impl<'a> Plan<'a> {
             AgainstPlan::File(path) => Some(path),
             AgainstPlan::Captured => None,
         }
-    }
-}
-
-fn policy_option<'a>(alloc: Global) -> Arg<'a> {
-    Arg::new(alloc, POLICY)
-        .long(POLICY)
-        .value_name("POLICY")
-        .action(ArgAction::Set)
-        .help("The policy that answers the records")
-}
-
-fn against_option<'a>(alloc: Global) -> Arg<'a> {
-    Arg::new(alloc, AGAINST)
-        .long(AGAINST)
-        .value_name("OLD")
-        .action(ArgAction::Set)
-        .help(
-            "Compares with the answers of this policy, or by `captured` with the replies in the records, and tells \
-            those that differ",
-        )
-}
-
-fn ordered_option<'a>(alloc: Global) -> Arg<'a> {
-    Arg::new(alloc, ORDERED)
-        .long(ORDERED)
-        .action(ArgAction::SetTrue)
-        .help("The order of attributes of different names counts too")
-}
-
-fn ignore_option<'a>(alloc: Global) -> Arg<'a> {
-    Arg::new(alloc, IGNORE)
-        .long(IGNORE)
-        .value_name("NAME")
-        .action(ArgAction::Append)
-        .help("Leaves an attribute out of what is compared; may be given more than once")
-}
-
-fn all_option<'a>(alloc: Global) -> Arg<'a> {
-    Arg::new(alloc, ALL)
-        .long(ALL)
-        .action(ArgAction::SetTrue)
-        .help("Tells the records that are answered alike too")
-}
-
-fn show_replies_option<'a>(alloc: Global) -> Arg<'a> {
-    Arg::new(alloc, SHOW_REPLIES)
-        .long(SHOW_REPLIES)
-        .action(ArgAction::SetTrue)
-        .help("Prints the list of each captured reply below its record")
-}
-
-fn strict_option<'a>(alloc: Global) -> Arg<'a> {
-    Arg::new(alloc, STRICT)
-        .long(STRICT)
-        .action(ArgAction::SetTrue)
-        .help("Ends with status 1 where a record is refused")
-}
-
-fn expect_option<'a>(alloc: Global) -> Arg<'a> {
-    Arg::new(alloc, EXPECT)
-        .long(EXPECT)
-        .value_name("FILE")
-        .action(ArgAction::Set)
-        .help("Ends with status 1 where the output differs from this earlier one, and tells where")
-}
-
-fn tap_option<'a>(alloc: Global) -> Arg<'a> {
-    Arg::new(alloc, TAP)
-        .long(TAP)
-        .action(ArgAction::SetTrue)
-        .help("Prints each record as a test of the Test Anything Protocol")
-}
-
-fn json_option<'a>(alloc: Global) -> Arg<'a> {
-    Arg::new(alloc, JSON)
-        .long(JSON)
-        .action(ArgAction::SetTrue)
-        .help("Prints each record, and the counts at the end, as a JSON object on a line")
-}
-
-fn to_hex_option<'a>(alloc: Global) -> Arg<'a> {
-    Arg::new(alloc, TO_HEX)
-        .long(TO_HEX)
-        .action(ArgAction::SetTrue)
-        .help("Answers nothing, but prints each record as a line of packets")
-}
-
-fn secret_option<'a>(alloc: Global) -> Arg<'a> {
-    Arg::new(alloc, SECRET)
-        .short('S')
-        .value_name("SECRET-FILE")
-        .action(ArgAction::Set)
-        .help("The file whose first line is the shared secret")
-}
-
-fn clients_option<'a>(alloc: Global) -> Arg<'a> {
-    Arg::new(alloc, CLIENTS)
-        .long(CLIENTS)
-        .value_name("CLIENTS-FILE")
-        .action(ArgAction::Set)
-        .help("The file of the clients and their secrets: lines, or a server's clients.conf")
-}
-
-fn no_secret_option<'a>(alloc: Global) -> Arg<'a> {
-    Arg::new(alloc, NO_SECRET)
-        .long(NO_SECRET)
-        .action(ArgAction::SetTrue)
-        .help(
-            "Reads packets without a secret: hidden values stay octets, no authenticator is checked, no reply packet is \
-            made; of texts packets are made by a known secret",
-        )
-}
-
-fn format_option<'a>(alloc: Global) -> Arg<'a> {
-    Arg::new(alloc, FORMAT)
-        .long(FORMAT)
-        .value_name("FORMAT")
-        .action(ArgAction::Set)
-        .help(
-            "What the records are: hex, records, detail, log, radclient or radsniff [default: told from the input]",
-        )
-}
-
-fn zone_option<'a>(alloc: Global) -> Arg<'a> {
-    Arg::new(alloc, ZONE)
-        .long(ZONE)
-        .value_name("OFFSET")
-        .action(ArgAction::Set)
-        .help("What a date's zone other than UTC stands for, as +01:00")
-}
-
-fn show_secrets_option<'a>(alloc: Global) -> Arg<'a> {
-    Arg::new(alloc, SHOW_SECRETS)
-        .long(SHOW_SECRETS)
-        .action(ArgAction::SetTrue)
-        .help("Shows passwords, keys and the replies that hold them")
-}
-
-fn hide_option<'a>(alloc: Global) -> Arg<'a> {
-    Arg::new(alloc, HIDE)
-        .long(HIDE)
-        .value_name("NAME")
-        .action(ArgAction::Append)
-        .help("Hides an attribute's values as those of secret ones; may be given more than once")
-}
-
-fn dictionary_files<'a>(alloc: Global) -> Arg<'a> {
-    Arg::new(alloc, DICTIONARY)
-        .required(true)
-        .value_name("DICTIONARY")
-        .num_args(1..)
-        .action(ArgAction::Append)
-        .help("Dictionary files, the main one first, as in /usr/share/freeradius/dictionary*")
-}
-
-fn program<'a>(alloc: Global) -> Result<clap::Command<'a>, AllocError> {
-    clap::Command::new(alloc, "radpolicy-replay")
-        .bin_name("radpolicy-replay")?
-        .about(
-            "Answers recorded requests by a policy, and tells what it answers otherwise than another",
-        )
-        .after_help(
-            "Standard input has a record a line: words that name it, and the request's packet in \
-            hexadecimal digits. Or it is what a server or a tool prints: a log of freeradius -X, a detail \
-            file, requests for radclient, or what radclient -x or radsniff -x print.",
-        )
-        .arg(policy_option(alloc))?
-        .arg(against_option(alloc))?
-        .arg(ordered_option(alloc))?
-        .arg(ignore_option(alloc))?
-        .arg(all_option(alloc))?
-        .arg(show_replies_option(alloc))?
-        .arg(strict_option(alloc))?
-        .arg(expect_option(alloc))?
-        .arg(tap_option(alloc))?
-        .arg(json_option(alloc))?
-        .arg(to_hex_option(alloc))?
-        .arg(secret_option(alloc))?
-        .arg(clients_option(alloc))?
-        .arg(no_secret_option(alloc))?
-        .arg(format_option(alloc))?
-        .arg(zone_option(alloc))?
-        .arg(show_secrets_option(alloc))?
-        .arg(hide_option(alloc))?
-        .arg(dictionary_files(alloc))
-}
-
-fn shown_secrets(found: &ArgMatches<'_>) -> SecretValues {
-    if found.get_flag(SHOW_SECRETS) {
-        SecretValues::Shown
-    } else {
-        SecretValues::Hidden
     }
 }
 
@@ -361,18 +151,6 @@ fn asked_layout(found: &ArgMatches<'_>) -> Result<Layout, Fault>
     }
 }
 
-// The names that an option gives.
-fn names_of<'a>(
-    alloc: Global,
-    found: &ArgMatches<'a>,
-    option: &str,
-) -> Result<Vec<&'a str>, AllocError> {
-    match found.get_strs(option) {
-        Some(names) => Vec::from_slice(alloc, names),
-        None => Ok(Vec::new(alloc)),
-    }
-}
-
 fn against_plan(word: &str) -> AgainstPlan<'_> {
     if word == CAPTURED {
         AgainstPlan::Captured
@@ -401,7 +179,7 @@ fn comparison_of<'a>(
     Ok(Some(ComparisonPlan {
         against: against_plan(against),
         order: asked_order(found),
-        ignored: names_of(alloc, found, IGNORE)?,
+        ignored: words_in(alloc, found, IGNORE)?,
         told: asked_records(found),
         shows_replies: found.get_flag(SHOW_REPLIES),
     }))
@@ -423,23 +201,46 @@ fn secret_plan<'a>(found: &ArgMatches<'a>) -> Result<SecretPlan<'a>, Fault>
 fn traffic_of(found: &ArgMatches<'_>) -> Result<Option<Traffic>, Fault>
     ensures { IfErr result IsWordFault }
 {
-    let Some(word) = found.get_str(FORMAT) else {
-        return Ok(None);
+    let named = match found.get_str(FORMAT) {
+        Some(word) => Some(Traffic::named(word).ok_or(Fault::OptionValue)?),
+        None => None,
     };
-    match Traffic::named(word) {
-        Some(traffic) => Ok(Some(traffic)),
-        None => Err(Fault::OptionValue),
+    match (found.get_str(SERVER), named) {
+        (None, named) => Ok(named),
+        (Some(_), None | Some(Traffic::Text(Format::DebugLog))) => {
+            Ok(Some(Traffic::Text(Format::InnerLog)))
+        }
+        (Some(_), Some(_)) => Err(Fault::Usage),
     }
 }
 
-fn zone_of(found: &ArgMatches<'_>) -> Result<Option<i16>, Fault>
+// Whether a virtual server is named for records of another kind than a server's log.
+fn names_server_of_others(found: &ArgMatches<'_>) -> bool {
+    match found.get_str(FORMAT) {
+        Some(word) => found.get_str(SERVER).is_some() && word != "log",
+        None => false,
+    }
+}
+
+// The code of a reply that is called so (RFC 2865, section 3; RFC 2866, section 3).
+fn reply_code(word: &str) -> Option<u8> {
+    match word {
+        "accept" => Some(2),
+        "reject" => Some(3),
+        "accounting" => Some(5),
+        "challenge" => Some(11),
+        _ => None,
+    }
+}
+
+fn only_of(found: &ArgMatches<'_>) -> Result<Option<u8>, Fault>
     ensures { IfErr result IsWordFault }
 {
-    let Some(word) = found.get_str(ZONE) else {
+    let Some(word) = found.get_str(ONLY) else {
         return Ok(None);
     };
-    match offset_spelled(word.as_bytes()) {
-        Some(offset) => Ok(Some(offset)),
+    match reply_code(word) {
+        Some(code) => Ok(Some(code)),
         None => Err(Fault::OptionValue),
     }
 }
@@ -447,31 +248,35 @@ fn zone_of(found: &ArgMatches<'_>) -> Result<Option<i16>, Fault>
 fn plan_of<'a>(alloc: Global, found: &ArgMatches<'a>) -> Result<Plan<'a>, Fault>
     ensures { IfErr result IsWordFault }
 {
-    let files = found.get_strs(DICTIONARY).ok_or(Fault::Usage)?;
     Ok(Plan {
         policy: found.get_str(POLICY).ok_or(Fault::Usage)?,
         comparison: comparison_of(alloc, found)?,
         strict: found.get_flag(STRICT),
         layout: asked_layout(found)?,
+        shown: words_in(alloc, found, SHOW)?,
+        only: only_of(found)?,
         expected: found.get_str(EXPECT),
         secret: secret_plan(found)?,
         secrets: shown_secrets(found),
-        hidden: names_of(alloc, found, HIDE)?,
+        hidden: words_in(alloc, found, HIDE)?,
         traffic: traffic_of(found)?,
-        zone: zone_of(found)?,
-        dictionaries: Vec::from_slice(alloc, files)?,
+        server: found.get_str(SERVER),
+        zone: zone_in(found)?,
+        folder: found.get_str(FOLDER),
+        dictionaries: words_in(alloc, found, DICTIONARY)?,
     })
 }
 
 fn packets_plan<'a>(alloc: Global, found: &ArgMatches<'a>) -> Result<PacketsPlan<'a>, Fault>
     ensures { IfErr result IsWordFault }
 {
-    let files = found.get_strs(DICTIONARY).ok_or(Fault::Usage)?;
     Ok(PacketsPlan {
         secret: secret_plan(found)?,
         traffic: traffic_of(found)?,
-        zone: zone_of(found)?,
-        dictionaries: Vec::from_slice(alloc, files)?,
+        server: found.get_str(SERVER),
+        zone: zone_in(found)?,
+        folder: found.get_str(FOLDER),
+        dictionaries: words_in(alloc, found, DICTIONARY)?,
     })
 }
 
@@ -485,6 +290,8 @@ fn has_replay(found: &ArgMatches<'_>) -> bool {
         || found.get_flag(JSON)
         || found.get_flag(SHOW_SECRETS)
         || found.get_strs(HIDE).is_some()
+        || found.get_strs(SHOW).is_some()
+        || found.get_str(ONLY).is_some()
         || has_comparison(found)
 }
 
@@ -531,8 +338,12 @@ fn refusal_of(found: &ArgMatches<'_>) -> &'static str {
         "--tap and --json exclude each other\n"
     } else if secret_plan(found).is_err() {
         "write one of -S SECRET-FILE, --clients CLIENTS-FILE and --no-secret\n"
+    } else if names_server_of_others(found) {
+        "--server goes with a server's log: leave --format out, or write --format log\n"
     } else if traffic_of(found).is_err() {
         "--format takes hex, records, detail, log, radclient or radsniff\n"
+    } else if only_of(found).is_err() {
+        "--only takes accept, reject, challenge or accounting\n"
     } else {
         "--zone takes what a zone is ahead of UTC, as +01:00\n"
     }
@@ -542,9 +353,7 @@ fn refusal_of(found: &ArgMatches<'_>) -> &'static str {
 pub fn read_words<'a, S: AsStr>(alloc: Global, words: &'a [S]) -> Result<Asked<'a>, Fault>
     ensures { IfErr result IsWordFault }
 {
-    let matches = program(alloc)?
-        .try_get_matches_from(words)
-        .map_err(|error| word_fault(&error))?;
+    let matches = matches_of(program(alloc)?, words)?;
     asked_of(alloc, &matches)
 }
 

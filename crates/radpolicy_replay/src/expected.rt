@@ -1,8 +1,10 @@
 //! An earlier output, with which this one is compared.
 
-use crate::places::{refuse_unread, shown};
+use crate::PROGRAM;
+use crate::places::shown;
 use radpolicy::Fault;
 use radpolicy_common::{Redaction, SecretValues, Unread, refuse_early, unread_shown};
+use radpolicy_help::refuse_unread_explained;
 use std::alloc::{AllocError, Global};
 use std::fs::File;
 use std::io;
@@ -114,9 +116,13 @@ pub fn expected_status(
         Ok(None) => ended,
         Ok(Some(other)) => match show_other(rt, redaction, path, &other) {
             Ok(()) => DIFFERENT,
-            Err(_) => refuse_early(rt, &Fault::Memory),
+            Err(_) => refuse_early(rt, PROGRAM, &Fault::Memory),
         },
-        Err(error) if error.kind() == ErrorKind::OutOfMemory => refuse_early(rt, &Fault::Memory),
-        Err(_) => refuse_unread(rt, Unread::File(path)),
+        Err(error) if error.kind() == ErrorKind::OutOfMemory => refuse_early(
+            rt,
+            PROGRAM,
+            &Fault::Memory,
+        ),
+        Err(_) => refuse_unread_explained(rt, PROGRAM, Unread::File(path)),
     }
 }

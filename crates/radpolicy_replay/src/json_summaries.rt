@@ -2,6 +2,7 @@
 
 use crate::command_line::{AgainstPlan, Plan};
 use crate::counted_lines::{CountedLine, PolicyTexts, counted_lines};
+use crate::equal_differences::{EqualDifference, equal_differences};
 use crate::summaries::Ended;
 use radpolicy_common::{LineBreaks, visible_text};
 use radpolicy_replay_layouts::push_string;
@@ -16,6 +17,9 @@ fn push_count(text: &mut Vec<u8>, name: &str, count: u64) -> Result<(), AllocErr
 // How many records there were, and of which kinds.
 fn push_kinds(text: &mut Vec<u8>, plan: &Plan<'_>, summary: &Summary) -> Result<(), AllocError> {
     push_count(text, "read", summary.read)?;
+    if plan.only.is_some() {
+        push_count(text, "left_out", summary.left_out)?;
+    }
     if let Some(comparison) = &plan.comparison {
         push_count(text, "same", summary.same)?;
         push_count(text, "different", summary.different)?;
@@ -51,7 +55,35 @@ fn push_lines(text: &mut Vec<u8>, lines: &[CountedLine<'_>]) -> Result<(), Alloc
     Ok(())
 }
 
-/// How many records there were, of which kinds, how fast it went, and which lines of the policies made them different.
+// The names of the first records with a difference.
+fn push_names(text: &mut Vec<u8>, names: &[Vec<u8>]) -> Result<(), AllocError> {
+    for (index, name) in names.iter().enumerate() {
+        if index > 0 {
+            text.push(b',')?;
+        }
+        push_visible(text, name)?;
+    }
+    Ok(())
+}
+
+// The differences, and which records have them.
+fn push_differences(text: &mut Vec<u8>, differences: &[EqualDifference]) -> Result<(), AllocError> {
+    for (index, equal) in differences.iter().enumerate() {
+        if index > 0 {
+            text.push(b',')?;
+        }
+        let records = equal.records;
+        let records = format!(in *text.allocator(); "{{\"records\":{records},\"difference\":")?;
+        text.extend_from_slice(records.as_bytes())?;
+        push_visible(text, &equal.text)?;
+        text.extend_from_slice(b",\"first\":[")?;
+        push_names(text, &equal.names)?;
+        text.extend_from_slice(b"]}")?;
+    }
+    Ok(())
+}
+
+/// How many records there were, of which kinds, which differences they have, how fast it went, and which lines of the policies made them different.
 pub fn json_summary(
     alloc: Global,
     plan: &Plan<'_>,
@@ -67,7 +99,10 @@ pub fn json_summary(
     if let Some(rate) = ended.rate {
         push_count(&mut text, "records_per_second", rate)?;
     }
-    text.extend_from_slice(b"\"lines\":[")?;
+    text.extend_from_slice(b"\"differences\":[")?;
+    let differences = equal_differences(alloc, summary.differences.as_slice(), 1)?;
+    push_differences(&mut text, &differences)?;
+    text.extend_from_slice(b"],\"lines\":[")?;
     let lines = counted_lines(alloc, plan, texts, summary.lines.as_slice())?;
     push_lines(&mut text, &lines)?;
     text.extend_from_slice(b"]}")?;

@@ -5,9 +5,11 @@ mod client_help;
 mod command_line;
 mod counted_lines;
 mod counters;
+mod equal_differences;
 mod expected;
 mod json_summaries;
 mod log_watches;
+mod options;
 mod places;
 mod secrets;
 mod streams;
@@ -25,26 +27,29 @@ use crate::command_line::{Asked, Plan, SecretPlan, help_text, read_words};
 use crate::counted_lines::PolicyTexts;
 use crate::counters::{CountedLines, CountedRecords, Counter};
 use crate::expected::{DIFFERENT, expected_status, open_expected};
-use crate::places::{FileLine, refuse_in, refuse_unread};
+use crate::places::{FileLine, refuse_in};
 use crate::secrets::{HeldSecrets, held_secrets, read_secret};
-use crate::streams::{flush, refuse_replay, write_text};
+use crate::streams::{Early, flush, refuse_input, write_text};
 use crate::summaries::{Ended, show_summary};
-use crate::to_hex::write_packets;
-use crate::traffic::{Traffic, read_beginning};
+use crate::to_hex::packets_plan;
+use crate::traffic::{Traffic, read_beginning, record_reader};
 use avp_dict::{Dictionary, FileSet};
 use avp_lists::{AttrId, Octets};
 use radpolicy::{Fault, PreparedPolicy};
 use radpolicy_common::{
-    Hiding, Redaction, Unread, command_words, named_attributes, read_dictionary_set, read_file,
-    refuse_early, show_help,
+    Hiding, Redaction, Unread, command_words, dictionaries_meant, lent_paths, named_attributes,
+    read_dictionary_set, read_file, refuse_early, show_help,
 };
-use radpolicy_help::{Source, Sources, refuse_name, refuse_words_of};
-use radpolicy_record_answers::{Against, Comparison};
-use radpolicy_replay_records::{Layout, RecordReader, Records, Replay, ReplayFault, Summary};
+use radpolicy_help::{Source, Sources, refuse_name, refuse_unread_explained, refuse_words_of};
+use radpolicy_record_answers::{Against, Comparison, Shown};
+use radpolicy_replay_records::{Layout, Records, Replay, ReplayFault, Summary};
 use std::alloc::{AllocError, Global};
 use std::fs::File;
 use std::io::{BufReader, BufWriter, Read, Write};
 use std::process::ExitCode;
+
+const PROGRAM: &str = "radpolicy-replay";
+
 use text_comparison::Watched;
 
 // What the files of a plan hold.
@@ -137,7 +142,7 @@ fn run_traffic<R: Read + Drop, W: Write>(
     match traffic {
         Traffic::Hex => run_lines(rt, plan, replay, CountedLines::new(input, counter), out),
         Traffic::Text(format) => {
-            let records = RecordReader::new(rt.alloc(), input, format)?;
+            let records = record_reader(rt.alloc(), input, format, plan.server)?;
             run_records(rt, plan, replay, CountedRecords::new(records, counter), out)
         }
     }
@@ -149,15 +154,13 @@ fn run_input<W: Write>(
     plan: &Plan<'_>,
     replay: &Replay<'_>,
     out: &mut W,
-) -> Result<Ended, ReplayFault> {
+) -> Result<Ended, Early> {
     let counter = Counter::new(rt);
     let mut input = rt.stdin();
-    if let Some(traffic) = plan.traffic {
-        return run_traffic(rt, plan, replay, traffic, counter, input, out);
-    }
-    let beginning = read_beginning(rt.alloc(), &mut input)?;
+    let beginning = read_beginning(rt.alloc(), &mut input, plan.traffic)?;
     let whole = beginning.octets.as_slice().chain(input);
-    run_traffic(rt, plan, replay, beginning.traffic, counter, whole, out)
+    let ended = run_traffic(rt, plan, replay, beginning.traffic, counter, whole, out)?;
+    Ok(ended)
 }
 
 // The last line of tests, which says how many there were.
@@ -173,7 +176,7 @@ fn run_laid_out<W: Write>(
     plan: &Plan<'_>,
     replay: &Replay<'_>,
     out: &mut W,
-) -> Result<Ended, ReplayFault> {
+) -> Result<Ended, Early> {
     if matches!(plan.layout, Layout::Plain | Layout::Json) {
         return run_input(rt, plan, replay, out);
     }
@@ -193,9 +196,9 @@ fn replay_to<W: Write>(
     match run_laid_out(rt, plan, replay, out) {
         Ok(ended) => match show_summary(rt, plan, texts, &ended) {
             Ok(()) => status_of(plan.strict, &ended.summary),
-            Err(_) => refuse_early(rt, &Fault::Memory),
+            Err(_) => refuse_early(rt, PROGRAM, &Fault::Memory),
         },
-        Err(fault) => refuse_replay(rt, fault),
+        Err(early) => refuse_input(rt, early),
     }
 }
 
@@ -208,7 +211,7 @@ fn replay_input(
     earlier: Option<BufReader<File>>,
 ) -> u8 {
     let Ok(mut out) = BufWriter::new(rt.alloc(), rt.stdout()) else {
-        return refuse_early(rt, &Fault::Memory);
+        return refuse_early(rt, PROGRAM, &Fault::Memory);
     };
     match (plan.expected, earlier) {
         (Some(path), Some(file)) => {
@@ -268,12 +271,13 @@ fn comparison_of<'a>(
     })
 }
 
-// What a plan says beside its policies: the secrets, the attributes that are left out where replies are compared, and
-// those that are hidden besides.
+// What a plan says beside its policies: the secrets, the attributes that are left out where replies are compared, those
+// that are hidden besides, and those that are shown of requests.
 struct Settings<'a> {
     secrets: HeldSecrets<'a>,
     ignored: Vec<AttrId>,
     hidden: Vec<AttrId>,
+    shown: Vec<AttrId>,
 }
 
 // As a function, so that where settings are dropped a proof sees one step.
@@ -283,6 +287,7 @@ impl<'a> Drop for Settings<'a> {
             secrets: _,
             ignored: _,
             hidden: _,
+            shown: _,
         } = self;
     }
 }
@@ -302,15 +307,20 @@ fn settings_of<'a>(
     };
     let ignored = match named_attributes(rt.alloc(), dictionary, ignored_names(plan))? {
         Ok(ignored) => ignored,
-        Err(name) => return Ok(Err(refuse_name(rt, dictionary, name))),
+        Err(name) => return Ok(Err(refuse_name(rt, PROGRAM, dictionary, name))),
     };
-    match named_attributes(rt.alloc(), dictionary, &plan.hidden)? {
-        Ok(hidden) => Ok(Ok(Settings {
+    let hidden = match named_attributes(rt.alloc(), dictionary, &plan.hidden)? {
+        Ok(hidden) => hidden,
+        Err(name) => return Ok(Err(refuse_name(rt, PROGRAM, dictionary, name))),
+    };
+    match named_attributes(rt.alloc(), dictionary, &plan.shown)? {
+        Ok(shown) => Ok(Ok(Settings {
             secrets,
             ignored,
             hidden,
+            shown,
         })),
-        Err(name) => Ok(Err(refuse_name(rt, dictionary, name))),
+        Err(name) => Ok(Err(refuse_name(rt, PROGRAM, dictionary, name))),
     }
 }
 
@@ -390,6 +400,12 @@ fn replay_by(
         shared: settings.secrets.shared(),
         comparison: comparison_of(plan, &against, &settings.ignored),
         redaction: &redaction,
+        shown: Shown {
+            ids: &settings.shown,
+            dictionary: &dictionary,
+            redaction: &redaction,
+        },
+        only: plan.only,
         layout: plan.layout,
     };
     let texts = PolicyTexts {
@@ -466,11 +482,11 @@ fn refuse_files(
 fn replay_plan(rt: &HostRuntime, plan: &Plan<'_>) -> u8 {
     let files = match read_files(rt, plan) {
         Ok(files) => files,
-        Err(unread) => return refuse_unread(rt, unread),
+        Err(unread) => return refuse_unread_explained(rt, PROGRAM, unread),
     };
     let earlier = match open_expected(rt, plan.expected) {
         Ok(earlier) => earlier,
-        Err(unread) => return refuse_unread(rt, unread),
+        Err(unread) => return refuse_unread_explained(rt, PROGRAM, unread),
     };
     let mut reading = Reading::New;
     match replay_by(rt, plan, &files, earlier, &mut reading) {
@@ -479,17 +495,47 @@ fn replay_plan(rt: &HostRuntime, plan: &Plan<'_>) -> u8 {
     }
 }
 
+// What the words ask for, with the dictionaries that they mean.
+fn replay_by_meant<'a>(rt: &HostRuntime, words: &'a [String], paths: &'a [String]) -> u8 {
+    let Ok(lent) = lent_paths(rt.alloc(), paths) else {
+        return refuse_early(rt, PROGRAM, &Fault::Memory);
+    };
+    match read_words(rt.alloc(), words) {
+        Ok(Asked::Replay(plan)) => {
+            let mut meant = plan;
+            meant.dictionaries = lent;
+            replay_plan(rt, &meant)
+        }
+        Ok(Asked::Packets(plan)) => {
+            let mut meant = plan;
+            meant.dictionaries = lent;
+            packets_plan(rt, &meant)
+        }
+        // The words were read before, so only memory is wanting.
+        Err(_) => refuse_early(rt, PROGRAM, &Fault::Memory),
+    }
+}
+
+fn paths_meant(rt: &HostRuntime, asked: &Asked<'_>) -> Result<Vec<String>, AllocError> {
+    match asked {
+        Asked::Replay(plan) => dictionaries_meant(rt, &plan.dictionaries, plan.folder),
+        Asked::Packets(plan) => dictionaries_meant(rt, &plan.dictionaries, plan.folder),
+    }
+}
+
 fn replay_words(rt: &HostRuntime, words: &[String]) -> u8 {
     match read_words(rt.alloc(), words) {
-        Ok(Asked::Replay(plan)) => replay_plan(rt, &plan),
-        Ok(Asked::Packets(plan)) => write_packets(rt, &plan),
-        Err(Fault::Help) => show_help(rt, help_text(rt.alloc(), words)),
-        Err(fault) => refuse_words_of(rt, &fault, "radpolicy-replay", help_text(rt.alloc(), words)),
+        Ok(asked) => match paths_meant(rt, &asked) {
+            Ok(paths) => replay_by_meant(rt, words, &paths),
+            Err(_) => refuse_early(rt, PROGRAM, &Fault::Memory),
+        },
+        Err(Fault::Help) => show_help(rt, PROGRAM, help_text(rt.alloc(), words)),
+        Err(fault) => refuse_words_of(rt, &fault, PROGRAM, help_text(rt.alloc(), words)),
     }
 }
 
 fn main(rt: HostRuntime) -> ExitCode {
-    let code = match command_words(&rt) {
+    let code = match command_words(&rt, PROGRAM) {
         Ok(words) => replay_words(&rt, words.as_slice()),
         Err(code) => code,
     };

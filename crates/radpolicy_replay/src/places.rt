@@ -2,28 +2,17 @@
 
 ghost use Rattle.radpolicy.specs.Faults.{IsPrintedWith};
 
+use crate::PROGRAM;
 use avp_dict::FileSet;
 use radpolicy::{Fault, status};
-use radpolicy_common::{LineBreaks, Unread, visible_text};
-use radpolicy_help::{
-    Sources, explain, explain_unread, refuse_explained, refuse_unread_explained, tell_help,
-};
+use radpolicy_common::{LineBreaks, visible_text};
+use radpolicy_help::{Sources, explain, refuse_at, refuse_explained};
 use std::alloc::{AllocError, Global};
-use std::fs;
 
 /// A text of the command line or of a file, as it is shown on standard error.
 pub fn shown(alloc: Global, text: &[u8]) -> Result<String, AllocError> {
     let visible = visible_text(alloc, text, LineBreaks::Escaped)?;
     String::from_utf8_lossy(alloc, &visible)
-}
-
-// Prints the line of a fault at this place, or without the place where there is no memory for it.
-fn refuse_at(rt: &HostRuntime, fault: &Fault, place: &str) {
-    let number = fault.number();
-    let _ = match shown(rt.alloc(), place.as_bytes()) {
-        Ok(place) => eprintln!(rt; "radpolicy: E{number:02} {place}: {fault}"),
-        Err(_) => eprintln!(rt; "radpolicy: E{number:02}: {fault}"),
-    };
 }
 
 /// A line of a file.
@@ -46,12 +35,12 @@ impl<'a> FileLine<'a> {
     }
 }
 
-fn refuse_at_line(rt: &HostRuntime, fault: &Fault, place: FileLine<'_>) {
-    let (number, line) = (fault.number(), place.line);
-    let _ = match shown(rt.alloc(), place.file) {
-        Ok(file) => eprintln!(rt; "radpolicy: E{number:02} {file}:{line}: {fault}"),
-        Err(_) => eprintln!(rt; "radpolicy: E{number:02} line {line}: {fault}"),
-    };
+// A line of a file, as `FILE:LINE`.
+fn line_text(alloc: Global, place: FileLine<'_>) -> Result<Vec<u8>, AllocError> {
+    let line = place.line;
+    let mut text = Vec::from_slice(alloc, place.file)?;
+    text.extend_from_slice(format!(in alloc; ":{line}")?.as_bytes())?;
+    Ok(text)
 }
 
 /// Refuses what is in files, at a line of one where it is known. Want of memory is nowhere.
@@ -64,24 +53,18 @@ pub fn refuse_in(
 ) -> u8
     requires { IsPrintedWith files.now fault.now }
 {
-    match place {
-        Some(place) if status(fault) != status(&Fault::Memory) => {
-            refuse_at_line(rt, fault, place);
-            tell_help(rt, explain(rt.alloc(), fault, sources));
-            status(fault)
-        }
-        _ => refuse_explained(rt, fault, files, sources),
+    if let Some(place) = place
+        && status(fault) != status(&Fault::Memory)
+        && let Ok(place) = line_text(rt.alloc(), place)
+    {
+        refuse_at(
+            rt,
+            PROGRAM,
+            fault,
+            &place,
+            explain(rt.alloc(), fault, sources),
+        )
+    } else {
+        refuse_explained(rt, PROGRAM, fault, files, sources)
     }
-}
-
-/// Refuses files that are not read.
-pub fn refuse_unread(rt: &HostRuntime, unread: Unread<'_>) -> u8 {
-    let Unread::File(path) = unread else {
-        return refuse_unread_explained(rt, unread);
-    };
-    let fault = unread.fault();
-    refuse_at(rt, &fault, path);
-    let is_folder = fs::metadata(rt, path).is_ok_and(|found| found.is_dir());
-    tell_help(rt, explain_unread(rt.alloc(), path, is_folder));
-    status(&fault)
 }

@@ -3,14 +3,15 @@
 ghost use Rattle.std.specs.Prelude.{IfErr};
 ghost use Rattle.radpolicy.specs.Faults.{IsPrintedAnywhere};
 
+use crate::PROGRAM;
 use crate::client_help::client_help;
 use crate::command_line::SecretPlan;
-use crate::places::{refuse_unread, shown};
+use crate::places::shown;
 use avp_lists::Octets;
 use radpolicy::{Fault, Secret, status};
 use radpolicy_clients::{ClientFault, Clients, ClientsFault, read_clients};
 use radpolicy_common::{Unread, read_file, refuse_early};
-use radpolicy_help::tell_help;
+use radpolicy_help::{refuse_unread_explained, tell_fault};
 use radpolicy_replay_records::SharedSecrets;
 use server_configuration::SystemFiles;
 use std::alloc::{AllocError, Global};
@@ -38,26 +39,40 @@ fn clients_place(alloc: Global, refused: &ClientsFault) -> Result<String, AllocE
     }
 }
 
+// The line of a file of clients that may not be read.
+fn forbidden_line(
+    alloc: Global,
+    path: &str,
+    refused: &ClientsFault,
+) -> Result<Vec<u8>, AllocError> {
+    let (path, fault) = (shown(alloc, path.as_bytes())?, refused.fault);
+    let line = format!(in alloc; "{PROGRAM}: E04 {path}: {fault}")?;
+    Ok(line.into_bytes())
+}
+
+// The line of a fault in a file of clients.
+fn clients_line(alloc: Global, refused: &ClientsFault) -> Result<Vec<u8>, AllocError> {
+    let (place, fault) = (clients_place(alloc, refused)?, refused.fault);
+    let line = format!(in alloc; "{PROGRAM}: E02 {place}: {fault}")?;
+    Ok(line.into_bytes())
+}
+
 // Why the clients are not read, and where. No secret is said.
 fn refuse_clients<'a>(rt: &HostRuntime, path: &'a str, refused: &ClientsFault) -> u8 {
     match refused.fault {
-        ClientFault::Memory => refuse_early(rt, &Fault::Memory),
-        ClientFault::Unreadable => refuse_unread(rt, Unread::File(path)),
+        ClientFault::Memory => refuse_early(rt, PROGRAM, &Fault::Memory),
+        ClientFault::Unreadable => refuse_unread_explained(rt, PROGRAM, Unread::File(path)),
         ClientFault::Forbidden => {
-            let fault = refused.fault;
-            let _ = match shown(rt.alloc(), path.as_bytes()) {
-                Ok(path) => eprintln!(rt; "radpolicy: E04 {path}: {fault}"),
-                Err(_) => eprintln!(rt; "radpolicy: E04: {fault}"),
-            };
-            status(&Fault::FileNotReadable)
+            let line = forbidden_line(rt.alloc(), path, refused);
+            let fault = Fault::FileNotReadable;
+            tell_fault(rt, PROGRAM, &fault, line, Ok(Vec::new(rt.alloc())));
+            status(&fault)
         }
-        fault => {
-            let _ = match clients_place(rt.alloc(), refused) {
-                Ok(place) => eprintln!(rt; "radpolicy: E02 {place}: {fault}"),
-                Err(_) => eprintln!(rt; "radpolicy: E02: {fault}"),
-            };
-            tell_help(rt, client_help(rt.alloc(), fault));
-            status(&Fault::OptionValue)
+        found => {
+            let line = clients_line(rt.alloc(), refused);
+            let fault = Fault::OptionValue;
+            tell_fault(rt, PROGRAM, &fault, line, client_help(rt.alloc(), found));
+            status(&fault)
         }
     }
 }

@@ -1,7 +1,9 @@
 //! What is written, and why writing and reading end early.
 
+use crate::PROGRAM;
 use radpolicy::Fault;
-use radpolicy_common::{Unread, refuse_early, refuse_unread};
+use radpolicy_common::{FileKind, Unread, refuse_early, refuse_kind, refuse_unread};
+use radpolicy_help::STANDARD_INPUT;
 use radpolicy_replay_records::ReplayFault;
 use std::io::Write;
 
@@ -21,11 +23,37 @@ pub fn flush<W: Write>(out: &mut W) -> Result<(), ReplayFault> {
     }
 }
 
+/// Why there is nothing to tell at the end.
+#[derive(Clone, Copy, Debug, PartialEq, Eq)]
+pub enum Early {
+    Fault(ReplayFault),
+    /// Standard input is of this kind, and has no records.
+    Kind(FileKind),
+}
+
+impl From<ReplayFault> for Early {
+    fn from(fault: ReplayFault) -> Self {
+        Early::Fault(fault)
+    }
+}
+
 /// Why a replay ended early. Standard input is named as a file that cannot be read is.
 pub fn refuse_replay(rt: &HostRuntime, fault: ReplayFault) -> u8 {
     match fault {
-        ReplayFault::Memory => refuse_early(rt, &Fault::Memory),
-        ReplayFault::Output => refuse_early(rt, &Fault::Write),
-        ReplayFault::Input | ReplayFault::TooManyRecords => refuse_unread(rt, Unread::File("-")),
+        ReplayFault::Memory => refuse_early(rt, PROGRAM, &Fault::Memory),
+        ReplayFault::Output => refuse_early(rt, PROGRAM, &Fault::Write),
+        ReplayFault::Input | ReplayFault::TooManyRecords => refuse_unread(
+            rt,
+            PROGRAM,
+            Unread::File("-"),
+        ),
+    }
+}
+
+/// The same, where it is told by its kind that an input has no records.
+pub fn refuse_input(rt: &HostRuntime, early: Early) -> u8 {
+    match early {
+        Early::Fault(fault) => refuse_replay(rt, fault),
+        Early::Kind(kind) => refuse_kind(rt, PROGRAM, STANDARD_INPUT, kind),
     }
 }

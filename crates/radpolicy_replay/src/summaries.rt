@@ -2,10 +2,11 @@
 
 use crate::command_line::{AgainstPlan, Plan};
 use crate::counted_lines::{PolicyTexts, counted_lines};
+use crate::equal_differences::{EqualDifference, equal_differences};
 use crate::json_summaries::json_summary;
 use crate::places::shown;
 use radpolicy_replay_records::{Layout, Summary};
-use std::alloc::AllocError;
+use std::alloc::{AllocError, Global};
 
 /// What a replay came to.
 #[derive(Drop)]
@@ -17,24 +18,54 @@ pub struct Ended {
     pub rate: Option<u64>,
 }
 
+// How many records were not asked for, where only some were.
+fn left_out_shown(alloc: Global, plan: &Plan<'_>, summary: &Summary) -> Result<String, AllocError> {
+    let left_out = summary.left_out;
+    match plan.only {
+        Some(_) => format!(in alloc; ", {left_out} left out"),
+        None => Ok(String::new(alloc)),
+    }
+}
+
 // How many records there were, and of which kinds.
-fn show_kinds(rt: &HostRuntime, plan: &Plan<'_>, summary: &Summary) {
+fn show_kinds(rt: &HostRuntime, plan: &Plan<'_>, summary: &Summary) -> Result<(), AllocError> {
     let (read, refused) = (summary.read, summary.refused);
+    let left_out = left_out_shown(rt.alloc(), plan, summary)?;
     let Some(comparison) = &plan.comparison else {
-        let _ = eprintln!(rt; "{read} read, {refused} refused");
-        return;
+        let _ = eprintln!(rt; "{read} read{left_out}, {refused} refused");
+        return Ok(());
     };
     let (same, different) = (summary.same, summary.different);
     let (unanswered, challenged) = (summary.unanswered, summary.challenged);
     let _ = match comparison.against {
         AgainstPlan::File(_) => {
-            eprintln!(rt; "{read} read, {same} same, {different} different, {refused} refused")
+            eprintln!(rt;
+                "{read} read{left_out}, {same} same, {different} different, {refused} refused"
+            )
         }
         AgainstPlan::Captured => eprintln!(rt;
-            "{read} read, {same} same, {different} different, {unanswered} unanswered, \
+            "{read} read{left_out}, {same} same, {different} different, {unanswered} unanswered, \
             {challenged} challenged, {refused} refused"
         ),
     };
+    Ok(())
+}
+
+// A difference that several records have, and which they are.
+fn show_difference(rt: &HostRuntime, equal: &EqualDifference) -> Result<(), AllocError> {
+    let records = equal.records;
+    let text = shown(rt.alloc(), &equal.text)?;
+    let names = shown(rt.alloc(), &equal.names_in_row(rt.alloc())?)?;
+    let _ = eprintln!(rt; "  {records} records: {text} ({names})");
+    Ok(())
+}
+
+// The differences that several records have. One that a single record has is told of that.
+fn show_differences(rt: &HostRuntime, summary: &Summary) -> Result<(), AllocError> {
+    for equal in &equal_differences(rt.alloc(), summary.differences.as_slice(), 2)? {
+        show_difference(rt, equal)?;
+    }
+    Ok(())
 }
 
 // Which lines made records different, and how many each.
@@ -53,7 +84,7 @@ fn show_lines(
     Ok(())
 }
 
-/// How many records there were, of which kinds, which lines of the policies made them different, and how fast it went.
+/// How many records there were, of which kinds, which differences several have, which lines of the policies made them different, and how fast it went.
 pub fn show_summary(
     rt: &HostRuntime,
     plan: &Plan<'_>,
@@ -68,7 +99,8 @@ pub fn show_summary(
         let _ = eprintln!(rt; "{line}");
         return Ok(());
     }
-    show_kinds(rt, plan, &ended.summary);
+    show_kinds(rt, plan, &ended.summary)?;
+    show_differences(rt, &ended.summary)?;
     show_lines(rt, plan, texts, &ended.summary)?;
     if ended.is_unchecked {
         let _ = eprintln!(rt;

@@ -4,19 +4,20 @@ ghost use Rattle.std.specs.Prelude.{◌<◌, IfErr, length};
 ghost use Rattle.avp_dict.specs.Lines.{HasDistinctNames};
 ghost use Rattle.radpolicy.specs.Faults.{IsPrintedWith};
 
+use crate::PROGRAM;
 use crate::command_line::PacketsPlan;
 use crate::log_watches::LogWatch;
-use crate::places::{FileLine, refuse_in, refuse_unread};
+use crate::places::{FileLine, refuse_in};
 use crate::secrets::{held_secrets, read_secret};
-use crate::streams::{flush, refuse_replay, write_text};
-use crate::traffic::{Traffic, read_beginning};
+use crate::streams::{Early, flush, refuse_input, write_text};
+use crate::traffic::{Traffic, read_beginning, record_reader};
 use avp_dict::{Dictionary, FileSet};
 use avp_lists::Octets;
 use radpolicy::Fault;
 use radpolicy_common::{read_dictionary_set, refuse_early};
-use radpolicy_help::{Source, Sources};
+use radpolicy_help::{Source, Sources, refuse_unread_explained};
 use radpolicy_record_answers::{entry_of_record, text_source};
-use radpolicy_replay_records::{RecordReader, Records, ReplayFault, SharedSecrets};
+use radpolicy_replay_records::{Records, ReplayFault, SharedSecrets};
 use radpolicy_traffic::Record;
 use std::alloc::Global;
 use std::io::{BufWriter, Read, Write};
@@ -34,6 +35,8 @@ struct Making<'a> {
     dictionary: &'a Dictionary,
     shared: SharedSecrets<'a>,
     zone: Option<i16>,
+    // The virtual server to which the requests go, where they come out of tunnels.
+    server: Option<&'a str>,
 }
 
 // The octets that are asked for by one read.
@@ -120,7 +123,7 @@ fn write_traffic<R: Read + Drop, W: Write>(
             Ok(None)
         }
         Traffic::Text(format) => {
-            let mut records = RecordReader::new(rt.alloc(), input, format)?;
+            let mut records = record_reader(rt.alloc(), input, format, making.server)?;
             Ok(Some(write_records(rt.alloc(), making, &mut records, out)?))
         }
     }
@@ -131,19 +134,17 @@ fn write_input<W: Write>(
     plan: &PacketsPlan<'_>,
     making: &Making<'_>,
     out: &mut W,
-) -> Result<Option<Counts>, ReplayFault> {
+) -> Result<Option<Counts>, Early> {
     let mut input = rt.stdin();
-    if let Some(traffic) = plan.traffic {
-        return write_traffic(rt, making, traffic, input, out);
-    }
-    let beginning = read_beginning(rt.alloc(), &mut input)?;
+    let beginning = read_beginning(rt.alloc(), &mut input, plan.traffic)?;
     let whole = beginning.octets.as_slice().chain(input);
-    write_traffic(rt, making, beginning.traffic, whole, out)
+    let counts = write_traffic(rt, making, beginning.traffic, whole, out)?;
+    Ok(counts)
 }
 
 fn written(rt: &HostRuntime, plan: &PacketsPlan<'_>, making: &Making<'_>) -> u8 {
     let Ok(mut out) = BufWriter::new(rt.alloc(), rt.stdout()) else {
-        return refuse_early(rt, &Fault::Memory);
+        return refuse_early(rt, PROGRAM, &Fault::Memory);
     };
     match write_input(rt, plan, making, &mut out) {
         Ok(Some(Counts { read, refused })) => {
@@ -151,7 +152,7 @@ fn written(rt: &HostRuntime, plan: &PacketsPlan<'_>, making: &Making<'_>) -> u8 
             0
         }
         Ok(None) => 0,
-        Err(fault) => refuse_replay(rt, fault),
+        Err(early) => refuse_input(rt, early),
     }
 }
 
@@ -175,6 +176,7 @@ fn write_by(
         dictionary: &dictionary,
         shared: secrets.shared(),
         zone: plan.zone,
+        server: plan.server,
     };
     Ok(written(rt, plan, &making))
 }
@@ -206,14 +208,14 @@ fn refuse_files(rt: &HostRuntime, plan: &PacketsPlan<'_>, files: &FileSet, fault
 }
 
 /// Writes the records of standard input as lines of packets.
-pub fn write_packets(rt: &HostRuntime, plan: &PacketsPlan<'_>) -> u8 {
+pub fn packets_plan(rt: &HostRuntime, plan: &PacketsPlan<'_>) -> u8 {
     let files = match read_dictionary_set(rt, plan.dictionaries.as_slice()) {
         Ok(files) => files,
-        Err(unread) => return refuse_unread(rt, unread),
+        Err(unread) => return refuse_unread_explained(rt, PROGRAM, unread),
     };
     let secret = match read_secret(rt, plan.secret) {
         Ok(secret) => secret,
-        Err(unread) => return refuse_unread(rt, unread),
+        Err(unread) => return refuse_unread_explained(rt, PROGRAM, unread),
     };
     match write_by(rt, plan, &files, &secret) {
         Ok(status) => status,

@@ -1,9 +1,11 @@
 //! What the records of standard input are.
 
+use crate::streams::Early;
+use radpolicy_common::file_kind;
 use radpolicy_record_answers::request_octets;
-use radpolicy_replay_records::ReplayFault;
+use radpolicy_replay_records::{RecordReader, ReplayFault};
 use radpolicy_traffic::{Format, format_of};
-use std::alloc::Global;
+use std::alloc::{AllocError, Global};
 use std::io::Read;
 
 /// What records are.
@@ -27,6 +29,19 @@ impl Traffic {
             "radsniff" => Some(Traffic::Text(Format::Radsniff)),
             _ => None,
         }
+    }
+}
+
+/// The records of an input in a format; of a server's log those that go to this virtual server, if one is named.
+pub fn record_reader<R: Read + Drop>(
+    alloc: Global,
+    input: R,
+    format: Format,
+    server: Option<&str>,
+) -> Result<RecordReader<R>, AllocError> {
+    match server {
+        Some(name) => RecordReader::of_server(alloc, input, name.as_bytes()),
+        None => RecordReader::new(alloc, input, format),
     }
 }
 
@@ -72,8 +87,13 @@ fn traffic_of(alloc: Global, lines: &[u8]) -> Option<Traffic> {
     None
 }
 
-/// Reads an input up to the first line that tells what its records are. They are lines of packets where none does.
-pub fn read_beginning<R: Read>(alloc: Global, input: &mut R) -> Result<Beginning, ReplayFault> {
+// Reads an input up to the first line that tells what its records are, if that is not named. They are lines of packets
+// where none does.
+fn read_lines<R: Read>(
+    alloc: Global,
+    input: &mut R,
+    named: Option<Traffic>,
+) -> Result<Beginning, ReplayFault> {
     let mut octets = Vec::new(alloc);
     let mut block = [0; BLOCK_OCTETS];
     for _ in 0..MAX_BLOCKS {
@@ -81,7 +101,8 @@ pub fn read_beginning<R: Read>(alloc: Global, input: &mut R) -> Result<Beginning
             return Err(ReplayFault::Input);
         };
         octets.extend_from_slice(&block[..count])?;
-        if let Some(traffic) = traffic_of(alloc, ended_lines(&octets, count == 0)) {
+        let told = traffic_of(alloc, ended_lines(&octets, count == 0));
+        if let Some(traffic) = named.or(told) {
             return Ok(Beginning { octets, traffic });
         }
         if count == 0 {
@@ -92,4 +113,18 @@ pub fn read_beginning<R: Read>(alloc: Global, input: &mut R) -> Result<Beginning
         octets,
         traffic: Traffic::Hex,
     })
+}
+
+/// Reads the beginning of an input whose records are named, or are told by its first line that tells it. An input of
+/// another kind is refused by that.
+pub fn read_beginning<R: Read>(
+    alloc: Global,
+    input: &mut R,
+    named: Option<Traffic>,
+) -> Result<Beginning, Early> {
+    let beginning = read_lines(alloc, input, named)?;
+    match file_kind(&beginning.octets) {
+        Some(kind) => Err(Early::Kind(kind)),
+        None => Ok(beginning),
+    }
 }

@@ -15,6 +15,11 @@ abbrev pub test_line : Bool → ℕ → List ℕ → List ℕ
 test_line passed number name = (if passed then [] else codes "not ") ++ codes "ok "
     ++ decimal number ++ codes " - " ++ described name ++ codes "\n"
 
+-- a test that was not made, with the directive that says so
+abbrev pub skipped_line : ℕ → List ℕ → List ℕ
+skipped_line number name =
+    codes "ok " ++ decimal number ++ codes " - " ++ described name ++ codes " # SKIP\n"
+
 -- lines as comments, of a text that begins a line or not
 abbrev pub comments : Bool → List ℕ → List ℕ
 comments begins [] = []

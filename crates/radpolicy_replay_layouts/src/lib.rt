@@ -5,4 +5,4 @@ mod json_texts;
 mod test_lines;
 
 pub use json_texts::{push_flag, push_string, push_strings};
-pub use test_lines::push_test;
+pub use test_lines::{push_skipped, push_test};

@@ -1,7 +1,7 @@
 //! Tests of the Test Anything Protocol.
 
 ghost use Rattle.std.specs.Prelude.{◌≡◌, ◌++◌, OnOk, true};
-ghost use Rattle.radpolicy_replay_layouts.specs.TestLines.{comments, described, octet_described, test_line, test_text};
+ghost use Rattle.radpolicy_replay_layouts.specs.TestLines.{comments, described, octet_described, skipped_line, test_line, test_text};
 
 use itoa::Buffer;
 use std::alloc::AllocError;
@@ -60,6 +60,19 @@ fn push_comments(text: &mut Vec<u8>, lines: &[u8]) -> Result<(), AllocError>
         begins = *octet == b'\n';
         rest = later;
     }
+    Ok(())
+}
+
+/// Adds a test that was not made, with its number and its name.
+pub fn push_skipped(text: &mut Vec<u8>, number: u64, name: &[u8]) -> Result<(), AllocError>
+    ensures { OnOk result (text.new.items ≡ text.old.items ++ skipped_line number name.now) }
+{
+    let mut digits = Buffer::new();
+    text.extend_from_slice(b"ok ")?;
+    text.extend_from_slice(digits.format(number).as_bytes())?;
+    text.extend_from_slice(b" - ")?;
+    push_described(text, name)?;
+    text.extend_from_slice(b" # SKIP\n")?;
     Ok(())
 }
 

@@ -1,3 +1,4 @@
+pub mod CountedAgain
 pub mod Counting
 pub mod Cutting
 pub mod Progress

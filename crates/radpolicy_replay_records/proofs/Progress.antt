@@ -1,5 +1,5 @@
 -- How far a replay has come: nothing yet, a part of a line, a line.
-use Rattle.std.proofs.Common.{◌≡◌, ◌∙◌, ℕ, ◌+◌, ◌^◌, ◌≤◌, Bool, true, false, if◌then◌else◌, List, [], ◌∷◌, ◌++◌, Option, None, Some, IfSome, append_assoc, append-nil, cond, refl, sym, ap, subst, length, arith}
+use Rattle.std.proofs.Common.{◌≡◌, ◌∙◌, ℕ, ◌+◌, ◌^◌, ◌≤◌, Bool, true, false, if◌then◌else◌, List, [], ◌∷◌, ◌++◌, All, Option, None, Some, IfSome, append_assoc, append-nil, cond, refl, sym, ap, subst, length, arith}
 use Rattle.std.specs.List.{fold, slice_split}
 use Rattle.std.specs.Io.KnownBytes.{Appends, Consumes, IsAtEnd, Keeps}
 use Rattle.std.proofs.lemmas.List.{take-take, take_all}
@@ -8,17 +8,21 @@ use Rattle.std.proofs.KnownBytes.{Appends-kept, Appends-nil, Appends-trans, Cons
 use Rattle.avp_dict.specs.Lines.{is_line_end}
 use Rattle.radpolicy_record_answers.specs.declared.records.TheConstants.{MAX_LINE_OCTETS}
 use Rattle.radpolicy_replay_records.specs.Lines.{cut, ended_records_of, is_record, records_of}
-use Rattle.radpolicy_replay_records.specs.Replays.{AppendsFront, IsReason, counted, counted_with, ended_text, ended_text_from, no_records, record_counted, record_lines, record_text, records_text, replayed_text, summary_from, summary_of, text_from, verdict_of}
+use Rattle.radpolicy_record_answers.specs.Entries.{entry_of_line}
+use Rattle.radpolicy_replay_records.specs.DifferenceCounts.{differences_with}
+use Rattle.radpolicy_replay_records.specs.Headings.{name_of}
+use Rattle.radpolicy_replay_records.specs.Replays.{AppendsFront, IsReason, counted, counted_with, ended_text, ended_text_from, no_records, record_counted, record_difference, record_lines, record_text, records_text, replayed_text, summary_from, summary_of, summary_with, text_from, verdict_of}
 use Rattle.radpolicy_changing_lines.specs.declared.differences.PolicyLine.{PolicyLine}
+use Rattle.radpolicy_replay_records.specs.declared.difference_counts.DifferenceCount.{DifferenceCount}
 use Rattle.radpolicy_replay_records.specs.declared.line_counts.LineCount.{LineCount}
 use Rattle.radpolicy_replay_records.specs.declared.replays.Replay.{Replay}
 use Rattle.radpolicy_replay_records.specs.declared.replays.ReplayFault.{ReplayFault}
 use Rattle.radpolicy_replay_records.specs.declared.replays.ReplayFault.TheVariants.{Input, Memory, Output, TooManyRecords}
 use Rattle.radpolicy_replay_records.specs.declared.summaries.Summary.{Summary}
 use Rattle.radpolicy_record_answers.specs.declared.verdicts.Verdict.{Verdict}
-use Rattle.radpolicy_record_answers.specs.declared.verdicts.Verdict.TheVariants.{Answered, Challenged, Different, Refused, Same, Unanswered}
-use Rattle.radpolicy_replay_records.specs.internal.Positions.{Continues, CountsWithin, HasCome, HasNoEnd, IsLineReason, IsOctetsReason, Writes, WritesFront, line_counted, line_text}
-use Rattle.radpolicy_replay_records.proofs.Counting.{lines_within}
+use Rattle.radpolicy_record_answers.specs.declared.verdicts.Verdict.TheVariants.{Answered, Challenged, Different, LeftOut, Refused, Same, Unanswered}
+use Rattle.radpolicy_replay_records.specs.internal.Positions.{Continues, CountsWithin, HasCome, HasNoEnd, IsLineReason, IsOctetsReason, KindsWithin, Writes, WritesFront, line_counted, line_text}
+use Rattle.radpolicy_replay_records.proofs.Counting.{differences_within, lines_within}
 use Rattle.radpolicy_replay_records.proofs.Cutting.{NoEnd, cut_has_no_end, ended_records_cut, ended_records_line, ended_records_none, first_clean, parts_joined, records_cut, records_last, records_line}
 
 -- ---- texts and counts, by the records that are left
@@ -33,6 +37,7 @@ counted_read summary Different = refl
 counted_read summary Unanswered = refl
 counted_read summary Challenged = refl
 counted_read summary Refused = refl
+counted_read summary LeftOut = refl
 
 -- the text of a line and of those after it
 line_first : (replay : Replay) (summary : Summary) (line : List ℕ) (records : List (List ℕ)) (b : Bool) → records_text replay (summary.read + 1) (cond b (line ∷ records) records) ≡ (if b then record_text replay (summary.read + 1) line else []) ++ records_text replay ((if b then record_counted replay summary line else summary).read + 1) records
@@ -44,66 +49,96 @@ count_first : (replay : Replay) (summary : Summary) (line : List ℕ) (records :
 count_first replay summary line records true = refl
 count_first replay summary line records false = refl
 
-pub counted_within : (summary : Summary) (verdict : Verdict) (lines : List PolicyLine) → CountsWithin summary → CountsWithin (counted_with summary verdict lines)
-counted_within summary Answered lines (same, different, unanswered, challenged, refused, counts) = (
+pub counted_within : (summary : Summary) (verdict : Verdict) (lines : List PolicyLine) → KindsWithin summary → KindsWithin (counted_with summary verdict lines)
+counted_within summary Answered lines (same, different, unanswered, challenged, refused, left_out, counts) = (
   omega (arith, same),
   omega (arith, different),
   omega (arith, unanswered),
   omega (arith, challenged),
   omega (arith, refused),
+  omega (arith, left_out),
   lines_within summary.lines lines summary.read counts,
 )
-counted_within summary Same lines (same, different, unanswered, challenged, refused, counts) = (
+counted_within summary Same lines (same, different, unanswered, challenged, refused, left_out, counts) = (
   omega (arith, same),
   omega (arith, different),
   omega (arith, unanswered),
   omega (arith, challenged),
   omega (arith, refused),
+  omega (arith, left_out),
   lines_within summary.lines lines summary.read counts,
 )
-counted_within summary Different lines (same, different, unanswered, challenged, refused, counts) = (
+counted_within summary Different lines (same, different, unanswered, challenged, refused, left_out, counts) = (
   omega (arith, same),
   omega (arith, different),
   omega (arith, unanswered),
   omega (arith, challenged),
   omega (arith, refused),
+  omega (arith, left_out),
   lines_within summary.lines lines summary.read counts,
 )
-counted_within summary Unanswered lines (same, different, unanswered, challenged, refused, counts) = (
+counted_within summary Unanswered lines (same, different, unanswered, challenged, refused, left_out, counts) = (
   omega (arith, same),
   omega (arith, different),
   omega (arith, unanswered),
   omega (arith, challenged),
   omega (arith, refused),
+  omega (arith, left_out),
   lines_within summary.lines lines summary.read counts,
 )
-counted_within summary Challenged lines (same, different, unanswered, challenged, refused, counts) = (
+counted_within summary Challenged lines (same, different, unanswered, challenged, refused, left_out, counts) = (
   omega (arith, same),
   omega (arith, different),
   omega (arith, unanswered),
   omega (arith, challenged),
   omega (arith, refused),
+  omega (arith, left_out),
   lines_within summary.lines lines summary.read counts,
 )
-counted_within summary Refused lines (same, different, unanswered, challenged, refused, counts) = (
+counted_within summary Refused lines (same, different, unanswered, challenged, refused, left_out, counts) = (
   omega (arith, same),
   omega (arith, different),
   omega (arith, unanswered),
   omega (arith, challenged),
   omega (arith, refused),
+  omega (arith, left_out),
   lines_within summary.lines lines summary.read counts,
 )
+counted_within summary LeftOut lines (same, different, unanswered, challenged, refused, left_out, counts) = (
+  omega (arith, same),
+  omega (arith, different),
+  omega (arith, unanswered),
+  omega (arith, challenged),
+  omega (arith, refused),
+  omega (arith, left_out),
+  lines_within summary.lines lines summary.read counts,
+)
+
+differences_counted : (summary : Summary) (verdict : Verdict) (name difference : List ℕ) → All (λ (count : DifferenceCount). count.records ≤ summary.read) summary.differences → All (λ (count : DifferenceCount). count.records ≤ (counted summary verdict).read) (differences_with (counted summary verdict).differences name difference)
+differences_counted summary Answered name difference within = differences_within summary.differences name difference summary.read within
+differences_counted summary Same name difference within = differences_within summary.differences name difference summary.read within
+differences_counted summary Different name difference within = differences_within summary.differences name difference summary.read within
+differences_counted summary Unanswered name difference within = differences_within summary.differences name difference summary.read within
+differences_counted summary Challenged name difference within = differences_within summary.differences name difference summary.read within
+differences_counted summary Refused name difference within = differences_within summary.differences name difference summary.read within
+differences_counted summary LeftOut name difference within = differences_within summary.differences name difference summary.read within
+
+pub record_within : (summary : Summary) (verdict : Verdict) (lines : List PolicyLine) (name difference : List ℕ) → CountsWithin summary → CountsWithin (summary_with (counted_with summary verdict lines) name difference)
+record_within summary verdict lines name difference (kinds, differences) =
+    (counted_within summary verdict lines kinds, differences_counted summary verdict name difference differences)
 
 pub line_counted_within : (replay : Replay) (summary : Summary) (line : List ℕ) → CountsWithin summary → CountsWithin (line_counted replay summary line)
 line_counted_within replay summary line within =
     elim (is_record line) as (λ b. CountsWithin (if b then record_counted replay summary line else summary)) [
-      | true ↦ counted_within summary (verdict_of replay line) (record_lines replay line) within
+      | true ↦ record_within summary (verdict_of replay line) (record_lines replay line) (name_of (summary.read + 1) (entry_of_line line)) (record_difference replay line) within
       | false ↦ within
     ]
 
 pub none_within : CountsWithin no_records
-none_within =
-    (omega arith, omega arith, omega arith, omega arith, omega arith, All-nil (λ (count : LineCount). count.records ≤ 0))
+none_within = (
+  (omega arith, omega arith, omega arith, omega arith, omega arith, omega arith, All-nil (λ (count : LineCount). count.records ≤ 0)),
+  All-nil (λ (count : DifferenceCount). count.records ≤ 0),
+)
 
 -- counts never fall
 counts_more : (replay : Replay) (summary : Summary) (records : List (List ℕ)) → summary.read ≤ (counts_of replay summary records).read

@@ -153,6 +153,7 @@ verdict_text verdict.Different = codes "different"
 verdict_text verdict.Unanswered = codes "unanswered"
 verdict_text verdict.Challenged = codes "challenged"
 verdict_text verdict.Refused = codes "refused"
+verdict_text verdict.LeftOut = codes "left out"
 
 -- a record of this name, of which that became, with these members
 abbrev pub json_line : List ℕ → Verdict → List ℕ → List ℕ

@@ -1,7 +1,10 @@
+pub mod DifferenceCounts
+pub mod Headings
 pub mod JsonEntries
 pub mod Layouts
 pub mod LineCounts
 pub mod Lines
 pub mod Replays
+pub mod Taking
 pub mod TextReplays
 pub mod internal

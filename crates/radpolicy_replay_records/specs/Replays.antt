@@ -1,22 +1,25 @@
 -- What a replay writes of a text of records, and how many there were.
-use Rattle.std.specs.Prelude.{◌≡◌, ◌≤◌, ℕ, ◌+◌, ◌^◌, Bool, true, false, List, [], ◌++◌, codes, Option, None, Some, Result, Ok, Err, ⊤}
+use Rattle.std.specs.Prelude.{◌≡◌, ◌≤◌, ℕ, ◌+◌, ◌^◌, Bool, true, false, if◌then◌else◌, List, [], ◌++◌, codes, Option, None, Some, Result, Ok, Err, ⊤}
 use Rattle.std.specs.Io.KnownBytes.{Appends, Consumes}
 use Rattle.std.specs.List.{enumerate_from, flat_map, fold}
 use Rattle.std.specs.Option.{option_and_then}
 use Rattle.radpolicy.specs.RunOutcomes.{RunOutcome}
 use Rattle.radpolicy_changing_lines.specs.declared.differences.PolicyLine.{PolicyLine}
 use Rattle.radpolicy_clients.specs.Clients.{secret_for}
-use Rattle.radpolicy_replay_layouts.specs.TestLines.{test_text}
+use Rattle.radpolicy_replay_layouts.specs.TestLines.{skipped_line, test_text}
 use Rattle.radpolicy_record_answers.specs.Answers.{answer_shown}
 use Rattle.radpolicy_record_answers.specs.Captured.{replies_told, replies_with, verdict_of_replies}
 use Rattle.radpolicy_record_answers.specs.Differences.{answers_told, verdict_of_answers}
 use Rattle.radpolicy_record_answers.specs.Entries.{entry_of_line}
+use Rattle.radpolicy_replay_records.specs.DifferenceCounts.{differences_with}
+use Rattle.radpolicy_replay_records.specs.Headings.{heading, name_of, request_member}
 use Rattle.radpolicy_replay_records.specs.JsonEntries.{answer_members, answers_members, has_line, json_line, line_if, replies_members}
 use Rattle.radpolicy_replay_records.specs.Layouts.{has_passed, without_last}
 use Rattle.radpolicy_replay_records.specs.LineCounts.{with_lines}
 use Rattle.radpolicy_replay_records.specs.Lines.{ended_records_of, records_of}
 use Rattle.radpolicy_record_answers.specs.RecordLines.{lines_alone, lines_beside, request_trace}
-use Rattle.radpolicy_record_answers.specs.Records.{or_number, source_of}
+use Rattle.radpolicy_replay_records.specs.Taking.{is_taken}
+use Rattle.radpolicy_record_answers.specs.Records.{source_of}
 use Rattle.radpolicy_record_answers.specs.Requests.{answer_by, or_missing}
 use Rattle.radpolicy_record_answers.specs.declared.answers.RecordFault.{RecordFault}
 use Rattle.radpolicy_record_answers.specs.declared.captured.Replies.{Replies}
@@ -35,7 +38,7 @@ use Rattle.radpolicy_replay_records.specs.declared.replays.SharedSecrets.{Shared
 use Rattle.radpolicy_replay_records.specs.declared.replays.SharedSecrets.TheVariants as shared
 use Rattle.radpolicy_replay_records.specs.declared.summaries.Summary.{Summary}
 use Rattle.radpolicy_record_answers.specs.declared.verdicts.Verdict.{Verdict}
-use Rattle.radpolicy_record_answers.specs.declared.verdicts.Verdict.TheVariants.{Answered, Challenged, Different, Refused, Same, Unanswered}
+use Rattle.radpolicy_record_answers.specs.declared.verdicts.Verdict.TheVariants.{Answered, Challenged, Different, LeftOut, Refused, Same, Unanswered}
 
 -- ---- one record
 
@@ -51,23 +54,23 @@ abbrev pub entry_replies : Replay → RecordSecret → Entry → Replies
 entry_replies replay secret entry =
     replies_with replay.policy.now secret entry.reply entry.request
 
--- what is written for a record with this number whose answer is compared with these
-abbrev pub compared_text : Replay → Comparison → Against → ℕ → RecordSecret → Entry → List ℕ
-compared_text replay comparison (Policy against) number secret entry =
-    answers_told replay.redaction.now comparison (or_number number entry.identifier)
+-- what is written for a record that is called so whose answer is compared with these
+abbrev pub compared_text : Replay → Comparison → Against → List ℕ → RecordSecret → Entry → List ℕ
+compared_text replay comparison (Policy against) name secret entry =
+    answers_told replay.redaction.now comparison name
     (answer_by against.now secret entry.request)
     (answer_by replay.policy.now secret entry.request)
-compared_text replay comparison Captured number secret entry =
-    replies_told replay.redaction.now replay.policy.now.dictionary comparison
-    (or_number number entry.identifier) (entry_replies replay secret entry)
+compared_text replay comparison Captured name secret entry =
+    replies_told replay.redaction.now replay.policy.now.dictionary comparison name
+    (entry_replies replay secret entry)
 
--- what is written for a record with this number, where its answer is compared and where it is not
-abbrev pub text_by : Replay → Option Comparison → ℕ → RecordSecret → Entry → List ℕ
-text_by replay None number secret entry = or_number number entry.identifier
+-- what is written for a record that is called so, where its answer is compared and where it is not
+abbrev pub text_by : Replay → Option Comparison → List ℕ → RecordSecret → Entry → List ℕ
+text_by replay None name secret entry = name
     ++ answer_shown replay.redaction.now (answer_by replay.policy.now secret entry.request)
     ++ codes "\n"
-text_by replay (Some comparison) number secret entry =
-    compared_text replay comparison comparison.against number secret entry
+text_by replay (Some comparison) name secret entry =
+    compared_text replay comparison comparison.against name secret entry
 
 abbrev pub verdict_by : Result RunOutcome RecordFault → Verdict
 verdict_by (Ok _) = Answered
@@ -86,16 +89,20 @@ verdict_on replay None secret entry =
 verdict_on replay (Some comparison) secret entry =
     compared_verdict replay comparison comparison.against secret entry
 
--- what became of a record that says this
-unfoldable pub entry_verdict : Replay → RecordSecret → Entry → Verdict
-entry_verdict replay secret entry = verdict_on replay replay.comparison secret entry
+-- what became of a record that says this and is taken
+unfoldable pub taken_verdict : Replay → RecordSecret → Entry → Verdict
+taken_verdict replay secret entry = verdict_on replay replay.comparison secret entry
 
--- the same as a test
-abbrev pub test_of : Replay → Bool → ℕ → RecordSecret → Entry → List ℕ
-test_of replay strict number secret entry =
-    test_text (has_passed strict (entry_verdict replay secret entry)) number
-    (without_last (or_number number entry.identifier))
-    (text_by replay replay.comparison number secret entry)
+-- the same, whether it is taken or not
+unfoldable pub entry_verdict : Replay → RecordSecret → Entry → Verdict
+entry_verdict replay secret entry =
+    if is_taken replay.only entry.reply then taken_verdict replay secret entry else LeftOut
+
+-- what is written for a record that is called so, as a test
+abbrev pub test_of : Replay → Bool → ℕ → List ℕ → RecordSecret → Entry → List ℕ
+test_of replay strict number name secret entry =
+    test_text (has_passed strict (taken_verdict replay secret entry)) number (without_last name)
+    (text_by replay replay.comparison name secret entry)
 
 -- what the object of a record has besides its name, where its answer is compared with these
 abbrev pub compared_members : Replay → Comparison → Against → RecordSecret → Entry → List ℕ
@@ -116,19 +123,36 @@ members_by replay (Some comparison) secret entry =
 -- what is written for a record as JSON
 abbrev pub entry_json : Replay → ℕ → RecordSecret → Entry → List ℕ
 entry_json replay number secret entry =
-    line_if (has_line replay.comparison (entry_verdict replay secret entry))
-    (json_line (without_last (or_number number entry.identifier))
-    (entry_verdict replay secret entry) (members_by replay replay.comparison secret entry))
+    line_if (has_line replay.comparison (taken_verdict replay secret entry))
+    (json_line (name_of number entry) (taken_verdict replay secret entry)
+    (request_member replay.shown secret entry
+    ++ members_by replay replay.comparison secret entry))
 
 abbrev pub text_in : Layout → Replay → ℕ → RecordSecret → Entry → List ℕ
-text_in Plain replay number secret entry = text_by replay replay.comparison number secret entry
-text_in Tests replay number secret entry = test_of replay false number secret entry
-text_in StrictTests replay number secret entry = test_of replay true number secret entry
+text_in Plain replay number secret entry =
+    text_by replay replay.comparison (heading replay.shown number secret entry) secret entry
+text_in Tests replay number secret entry =
+    test_of replay false number (heading replay.shown number secret entry) secret entry
+text_in StrictTests replay number secret entry =
+    test_of replay true number (heading replay.shown number secret entry) secret entry
 text_in Json replay number secret entry = entry_json replay number secret entry
 
--- what is written for a record with this number that says this, by the secret of its source if there is one
+-- what is written for a record with this number that says this and is taken, by the secret of its source, if it has one
+unfoldable pub taken_text : Replay → ℕ → RecordSecret → Entry → List ℕ
+taken_text replay number secret entry = text_in replay.layout replay number secret entry
+
+-- what is written for a record of this name that is not taken
+abbrev pub left_out_in : Layout → ℕ → List ℕ → List ℕ
+left_out_in Plain number name = []
+left_out_in Tests number name = skipped_line number name
+left_out_in StrictTests number name = skipped_line number name
+left_out_in Json number name = []
+
+-- what is written for a record with this number that says this
 unfoldable pub entry_text : Replay → ℕ → RecordSecret → Entry → List ℕ
-entry_text replay number secret entry = text_in replay.layout replay number secret entry
+entry_text replay number secret entry =
+    if is_taken replay.only entry.reply then taken_text replay number secret entry
+    else left_out_in replay.layout number (name_of number entry)
 
 -- what is written for the record of a line with this number
 unfoldable pub record_text : Replay → ℕ → List ℕ → List ℕ
@@ -171,6 +195,32 @@ unfoldable pub record_lines : Replay → List ℕ → List PolicyLine
 record_lines replay line =
     entry_lines replay (record_secret replay.shared line) (entry_of_line line)
 
+-- ---- what differs
+
+-- the same comparison, by which the reply that was captured is not shown
+abbrev pub without_replies : Comparison → Comparison
+without_replies comparison = record comparison { shows_replies = false }
+
+abbrev pub difference_on : Replay → Option Comparison → RecordSecret → Entry → List ℕ
+difference_on replay None secret entry = []
+difference_on replay (Some comparison) secret entry =
+    compared_text replay (without_replies comparison) comparison.against [] secret entry
+
+-- only a record that is different has a difference
+abbrev pub difference_if : Verdict → List ℕ → List ℕ
+difference_if Different text = text
+difference_if _ text = []
+
+-- the difference of a record that says this: what is written for it, without what it is called
+unfoldable pub entry_difference : Replay → RecordSecret → Entry → List ℕ
+entry_difference replay secret entry = difference_if (entry_verdict replay secret entry)
+    (difference_on replay replay.comparison secret entry)
+
+-- that of the record of a line
+unfoldable pub record_difference : Replay → List ℕ → List ℕ
+record_difference replay line =
+    entry_difference replay (record_secret replay.shared line) (entry_of_line line)
+
 -- ---- all records
 
 -- what is written for records: a text for each, by itself and its number alone
@@ -197,19 +247,28 @@ counted summary Challenged =
     record summary { read = summary.read + 1; challenged = summary.challenged + 1 }
 counted summary Refused =
     record summary { read = summary.read + 1; refused = summary.refused + 1 }
+counted summary LeftOut =
+    record summary { read = summary.read + 1; left_out = summary.left_out + 1 }
 
 -- the same, which these lines made different
 abbrev pub counted_with : Summary → Verdict → List PolicyLine → Summary
 counted_with summary verdict lines =
     record (counted summary verdict) { lines = with_lines summary.lines lines }
 
+-- the same, with the difference of the record of this name, if it has one
+abbrev pub summary_with : Summary → List ℕ → List ℕ → Summary
+summary_with summary name difference =
+    record summary { differences = differences_with summary.differences name difference }
+
 abbrev pub entry_counted : Replay → Summary → RecordSecret → Entry → Summary
-entry_counted replay summary secret entry =
-    counted_with summary (entry_verdict replay secret entry) (entry_lines replay secret entry)
+entry_counted replay summary secret entry = summary_with
+    (counted_with summary (entry_verdict replay secret entry) (entry_lines replay secret entry))
+    (name_of (summary.read + 1) entry) (entry_difference replay secret entry)
 
 abbrev pub record_counted : Replay → Summary → List ℕ → Summary
-record_counted replay summary line =
-    counted_with summary (verdict_of replay line) (record_lines replay line)
+record_counted replay summary line = summary_with
+    (counted_with summary (verdict_of replay line) (record_lines replay line))
+    (name_of (summary.read + 1) (entry_of_line line)) (record_difference replay line)
 
 abbrev pub no_records : Summary
 no_records = record {
@@ -219,7 +278,9 @@ no_records = record {
   unanswered = 0;
   challenged = 0;
   refused = 0;
+  left_out = 0;
   lines = [];
+  differences = [];
 }
 
 -- the counts with those of the records of a text

@@ -93,6 +93,21 @@ impl<R: Read + Drop> RecordReader<R> {
         })
     }
 
+    /// Those of a server's log that come out of tunnels and go to a virtual server.
+    pub fn of_server(alloc: Global, input: R, server: &[u8]) -> Result<Self, AllocError> {
+        let lines = JoinedLines {
+            reader: Reader::of_server(alloc, server)?,
+            line: Vec::new(alloc),
+            ready: VecDeque::new(alloc),
+        };
+        Ok(RecordReader {
+            input,
+            block: vec![in alloc; 0; BLOCK_OCTETS]?,
+            lines,
+            is_over: false,
+        })
+    }
+
     // Reads the next block. A last line needs no end.
     fn read_block(&mut self) -> Result<(), ReplayFault>
         ensures { IfErr result IsInputFault }

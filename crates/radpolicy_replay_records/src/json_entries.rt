@@ -3,17 +3,17 @@
 ghost use Rattle.std.specs.Prelude.{◌≡◌, ◌++◌, IfOk, None, OnOk, Some};
 ghost use Rattle.radpolicy_replay_records.specs.JsonEntries.{has_line, is_told, json_line, line_if, verdict_text};
 ghost use Rattle.radpolicy_replay_records.specs.internal.Running.{AreFor, AreOf};
-ghost use Rattle.radpolicy_replay_records.specs.Replays.{compared_members, compared_verdict, entry_json, entry_verdict, members_by, verdict_on};
+ghost use Rattle.radpolicy_replay_records.specs.Replays.{compared_members, compared_verdict, entry_json, members_by, taken_verdict, verdict_on};
 ghost use Rattle.radpolicy_record_answers.specs.declared.comparisons.Against.TheVariants.{Captured, Policy};
 
+use crate::headings::{name_of, push_request_member};
 use crate::json_members::{push_answer_members, push_answers_members, push_replies_members};
-use crate::layouts::without_last;
 use crate::replays::Replay;
 use crate::runners::Runners;
 use radpolicy::PreparedPolicy;
 use radpolicy_record_answers::{
     Against, Comparison, Entry, Printer, RecordSecret, Told, Verdict, answer_over, entry_answer,
-    entry_replies, push_name,
+    entry_replies,
 };
 use radpolicy_replay_layouts::push_string;
 use std::alloc::AllocError;
@@ -28,6 +28,7 @@ fn verdict_text(verdict: Verdict) -> &'static [u8]
         Verdict::Unanswered => b"unanswered",
         Verdict::Challenged => b"challenged",
         Verdict::Refused => b"refused",
+        Verdict::LeftOut => b"left out",
     }
 }
 
@@ -166,7 +167,7 @@ impl<'a> Replay<'a> {
     }
 
     // What the object of a record has besides its name.
-    #[tactic(auto, unfolding(crate::specs::Replays::entry_verdict))]
+    #[tactic(auto, unfolding(crate::specs::Replays::taken_verdict))]
     fn push_members<'b>(
         &'b self,
         text: &mut Vec<u8>,
@@ -178,7 +179,7 @@ impl<'a> Replay<'a> {
         ensures text { OnOk result (text.new.items
             ≡ text.old.items ++ members_by self.now self.now.comparison secret.now entry.now) }
         ensures verdict { IfOk result (λ verdict.
-            verdict ≡ entry_verdict self.now secret.now entry.now) }
+            verdict ≡ taken_verdict self.now secret.now entry.now) }
         ensures kept { runners.new ≡ runners.old }
     {
         match &self.comparison {
@@ -202,15 +203,16 @@ impl<'a> Replay<'a> {
         ensures text { OnOk result (text.new.items
             ≡ text.old.items ++ entry_json self.now number secret.now entry.now) }
         ensures verdict { IfOk result (λ verdict.
-            verdict ≡ entry_verdict self.now secret.now entry.now) }
+            verdict ≡ taken_verdict self.now secret.now entry.now) }
         ensures kept { runners.new ≡ runners.old }
     {
         let alloc = *text.allocator();
-        let (mut name, mut members) = (Vec::new(alloc), Vec::new(alloc));
-        push_name(&mut name, number, entry.identifier.as_slice())?;
+        let name = name_of(alloc, number, entry)?;
+        let mut members = Vec::new(alloc);
+        push_request_member(&mut members, &self.shown, secret, entry)?;
         let verdict = self.push_members(&mut members, runners, secret, entry)?;
         if has_line(&self.comparison, verdict) {
-            push_json_line(text, without_last(&name), verdict, &members)?;
+            push_json_line(text, &name, verdict, &members)?;
         }
         Ok(verdict)
     }

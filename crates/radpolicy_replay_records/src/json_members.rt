@@ -141,8 +141,8 @@ fn line_strings(alloc: Global, blanks: usize, lines: &[u8]) -> Result<Vec<&[u8]>
     Ok(strings)
 }
 
-// Lines that are indented so, below this name.
-fn push_lines_member(
+/// Lines that are indented so, below this name.
+pub(crate) fn push_lines_member(
     text: &mut Vec<u8>,
     name: &[u8],
     blanks: usize,

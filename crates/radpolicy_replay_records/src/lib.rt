@@ -2,6 +2,10 @@
 //! answer to each.
 #![tactic(auto)]
 
+mod difference_counts;
+mod differences;
+mod entry_texts;
+mod headings;
 mod inputs;
 mod json_entries;
 mod json_members;
@@ -11,7 +15,9 @@ mod lines;
 mod replays;
 mod runners;
 mod summaries;
+mod taking;
 
+pub use difference_counts::{DifferenceCount, DifferenceCounts, MAX_DIFFERENCES, MAX_NAMES};
 pub use inputs::{RecordReader, Records};
 pub use layouts::Layout;
 pub use line_counts::{LineCount, LineCounts};

@@ -1,34 +1,28 @@
 //! The replay of an input.
 
-ghost use Rattle.std.specs.Prelude.{◌≡◌, ◌<◌, ◌≤◌, ◌+◌, ◌^◌, ◌++◌, Err, IfErr, IfOk, IfSome, None, Ok, OnErr, OnOk, Some, length, take};
+ghost use Rattle.std.specs.Prelude.{◌≡◌, ◌<◌, ◌≤◌, ◌+◌, ◌^◌, ◌++◌, IfErr, IfOk, IfSome, OnErr, OnOk, length, take};
 ghost use Rattle.std.specs.Io.KnownBytes.{Appends, Consumes, IsAtEnd, Keeps};
 ghost use Rattle.radpolicy_replay_records.specs.Lines.{cut};
-ghost use Rattle.radpolicy_record_answers.specs.Answers.{answer_shown};
-ghost use Rattle.radpolicy_record_answers.specs.Requests.{answer_by};
-ghost use Rattle.radpolicy_replay_records.specs.Replays.{AppendsFront, IsReason, compared_lines, compared_text, compared_verdict, entry_counted, entry_lines, entry_text, entry_verdict, lines_if, lines_on, record_lines, record_secret, record_text, replayed_text, summary_of, test_of, text_by, verdict_by, verdict_of, verdict_on};
+ghost use Rattle.radpolicy_replay_records.specs.Replays.{AppendsFront, IsReason, entry_counted, entry_text, record_difference, record_lines, record_secret, record_text, replayed_text, summary_of, verdict_of};
 ghost use Rattle.radpolicy_record_answers.specs.Entries.{entry_of_line};
 ghost use Rattle.radpolicy_record_answers.specs.TextEntries.{IsEntryOf};
 ghost use Rattle.radpolicy_replay_records.specs.TextReplays.{IsRecordsReason, IsReplayed, IsReplayedFront, text_secret};
-ghost use Rattle.radpolicy_record_answers.specs.declared.comparisons.Against.TheVariants.{Captured, Policy};
 ghost use Rattle.radpolicy_replay_records.specs.declared.replays.ReplayFault.TheVariants.{Input as NotRead, Memory as OutOfMemory, Output as NotWritten};
-ghost use Rattle.radpolicy_replay_records.specs.internal.Running.{AreFor, AreOf};
+ghost use Rattle.radpolicy_replay_records.specs.internal.Running.{AreOf};
 ghost use Rattle.radpolicy_replay_records.specs.internal.Positions.{CountsWithin, HasNoEnd, IsEntryReason, IsLineReason, IsOctetsReason, Writes, WritesFront, line_counted, line_text};
 
 use crate::inputs::Records;
-use crate::layouts::{Layout, has_passed, without_last};
+use crate::layouts::Layout;
 use crate::lines::{first_line_end, is_record, keep};
 use crate::runners::Runners;
 use crate::summaries::Summary;
 use radpolicy::{PreparedPolicy, Secret};
-use radpolicy_changing_lines::PolicyLine;
 use radpolicy_clients::Clients;
 use radpolicy_common::Redaction;
 use radpolicy_record_answers::{
-    Against, Comparison, Entry, MAX_LINE_OCTETS, Printer, RecordSecret, Verdict, answer_over,
-    entry_answer, entry_of_line, entry_of_record, entry_replies, push_name, push_outcome,
-    push_refusal, run_of, source_of, text_source,
+    Comparison, Entry, MAX_LINE_OCTETS, RecordSecret, Shown, entry_of_line, entry_of_record,
+    source_of, text_source,
 };
-use radpolicy_replay_layouts::push_test;
 use radpolicy_traffic::Record;
 use std::alloc::{AllocError, AllocFailed, Global};
 use std::io::{ErrorKind, Read, Write};
@@ -87,6 +81,10 @@ pub struct Replay<'a> {
     /// `None`: each record is answered.
     pub comparison: Option<Comparison<'a>>,
     pub redaction: &'a Redaction<'a>,
+    /// What is shown of the requests.
+    pub shown: Shown<'a>,
+    /// The code of the captured replies whose records are taken; `None`: all are.
+    pub only: Option<u8>,
     pub layout: Layout,
 }
 
@@ -192,329 +190,6 @@ impl SharedSecrets<'_> {
 }
 
 impl<'a> Replay<'a> {
-    // What is said of the answer to a record.
-    fn push_answer<'b>(
-        &'b self,
-        text: &mut Vec<u8>,
-        runners: &mut Runners<'a>,
-        secret: &'b RecordSecret<'b>,
-        entry: &Entry,
-    ) -> Result<Verdict, AllocError>
-        requires runners { runners.old.own ≡ self.now.policy.now }
-        ensures text { OnOk result (text.new.items ≡ text.old.items
-            ++ answer_shown self.now.redaction.now
-            (answer_by self.now.policy.now secret.now entry.now.request)) }
-        ensures verdict { IfOk result (λ verdict. verdict
-            ≡ verdict_by (answer_by self.now.policy.now secret.now entry.now.request)) }
-        ensures kept { runners.new ≡ runners.old }
-    {
-        match entry_answer(*text.allocator(), &mut runners.own, secret, entry)? {
-            Ok(outcome) => {
-                push_outcome(text, self.redaction, &outcome)?;
-                Ok(Verdict::Answered)
-            }
-            Err(fault) => {
-                push_refusal(text, fault)?;
-                Ok(Verdict::Refused)
-            }
-        }
-    }
-
-    // The line of a record whose answer is not compared.
-    fn push_answered<'b>(
-        &'b self,
-        text: &mut Vec<u8>,
-        runners: &mut Runners<'a>,
-        number: u64,
-        secret: &'b RecordSecret<'b>,
-        entry: &Entry,
-    ) -> Result<Verdict, AllocError>
-        requires runners { runners.old.own ≡ self.now.policy.now }
-        ensures text { OnOk result (text.new.items
-            ≡ text.old.items ++ text_by self.now None number secret.now entry.now) }
-        ensures verdict { IfOk result (λ verdict.
-            verdict ≡ verdict_on self.now None secret.now entry.now) }
-        ensures kept { runners.new ≡ runners.old }
-    {
-        push_name(text, number, entry.identifier.as_slice())?;
-        let verdict = self.push_answer(text, runners, secret, entry)?;
-        text.extend_from_slice(b"\n")?;
-        Ok(verdict)
-    }
-
-    // What is said of a record whose answer is compared with that of another policy.
-    fn push_beside_policy<'b>(
-        &'b self,
-        text: &mut Vec<u8>,
-        runners: &mut Runners<'a>,
-        comparison: &'b Comparison<'b>,
-        against: &'b PreparedPolicy<'b>,
-        number: u64,
-        secret: &'b RecordSecret<'b>,
-        entry: &Entry,
-    ) -> Result<Verdict, AllocError>
-        requires runners { (runners.old.own ≡ self.now.policy.now)
-            × (runners.old.beside ≡ against.now) }
-        ensures text { OnOk result (text.new.items ≡ text.old.items ++ compared_text self.now
-            comparison.now (Policy against.entry) number secret.now entry.now) }
-        ensures verdict { IfOk result (λ verdict. verdict ≡ compared_verdict self.now
-            comparison.now (Policy against.entry) secret.now entry.now) }
-        ensures kept { runners.new ≡ runners.old }
-    {
-        let alloc = *text.allocator();
-        let mut name = Vec::new(alloc);
-        push_name(&mut name, number, entry.identifier.as_slice())?;
-        let old = answer_over(alloc, &mut runners.beside, secret, entry)?;
-        let new = answer_over(alloc, &mut runners.own, secret, entry)?;
-        let printer = Printer {
-            old: against.dictionary(),
-            new: self.policy.dictionary(),
-            redaction: self.redaction,
-        };
-        comparison.push_answers(text, &printer, &name, &old, &new)
-    }
-
-    // What is said of a record whose answer is compared with the reply that was captured.
-    fn push_beside_captured<'b>(
-        &'b self,
-        text: &mut Vec<u8>,
-        runners: &mut Runners<'a>,
-        comparison: &'b Comparison<'b>,
-        number: u64,
-        secret: &'b RecordSecret<'b>,
-        entry: &Entry,
-    ) -> Result<Verdict, AllocError>
-        requires runners { runners.old.own ≡ self.now.policy.now }
-        ensures text { OnOk result (text.new.items ≡ text.old.items
-            ++ compared_text self.now comparison.now Captured number secret.now entry.now) }
-        ensures verdict { IfOk result (λ verdict. verdict
-            ≡ compared_verdict self.now comparison.now Captured secret.now entry.now) }
-        ensures kept { runners.new ≡ runners.old }
-    {
-        let alloc = *text.allocator();
-        let mut name = Vec::new(alloc);
-        push_name(&mut name, number, entry.identifier.as_slice())?;
-        let replies = entry_replies(alloc, &mut runners.own, secret, entry)?;
-        let dictionary = self.policy.dictionary();
-        comparison.push_replies(text, dictionary, self.redaction, &name, &replies)
-    }
-
-    // What is said of a record whose answer is compared.
-    fn push_compared<'b>(
-        &'b self,
-        text: &mut Vec<u8>,
-        runners: &mut Runners<'a>,
-        comparison: &'b Comparison<'b>,
-        number: u64,
-        secret: &'b RecordSecret<'b>,
-        entry: &Entry,
-    ) -> Result<Verdict, AllocError>
-        requires runners { AreFor self.now (Some comparison.now) runners.old }
-        ensures text { OnOk result (text.new.items ≡ text.old.items
-            ++ text_by self.now (Some comparison.now) number secret.now entry.now) }
-        ensures verdict { IfOk result (λ verdict.
-            verdict ≡ verdict_on self.now (Some comparison.now) secret.now entry.now) }
-        ensures kept { runners.new ≡ runners.old }
-    {
-        match &comparison.against {
-            Against::Policy(against) => {
-                self.push_beside_policy(text, runners, comparison, *against, number, secret, entry)
-            }
-            Against::Captured => {
-                self.push_beside_captured(text, runners, comparison, number, secret, entry)
-            }
-        }
-    }
-
-    // What is said of a record, as it is.
-    #[tactic(auto, unfolding(crate::specs::Replays::entry_verdict))]
-    fn push_plain<'b>(
-        &'b self,
-        text: &mut Vec<u8>,
-        runners: &mut Runners<'a>,
-        number: u64,
-        secret: &'b RecordSecret<'b>,
-        entry: &Entry,
-    ) -> Result<Verdict, AllocError>
-        requires runners { AreOf self.now runners.old }
-        ensures text { OnOk result (text.new.items
-            ≡ text.old.items ++ text_by self.now self.now.comparison number secret.now entry.now) }
-        ensures verdict { IfOk result (λ verdict.
-            verdict ≡ entry_verdict self.now secret.now entry.now) }
-        ensures kept { runners.new ≡ runners.old }
-    {
-        match &self.comparison {
-            None => self.push_answered(text, runners, number, secret, entry),
-            Some(comparison) => self.push_compared(
-                text, runners, comparison, number, secret, entry,
-            ),
-        }
-    }
-
-    // The same as a test.
-    fn push_test<'b>(
-        &'b self,
-        text: &mut Vec<u8>,
-        runners: &mut Runners<'a>,
-        strict: bool,
-        number: u64,
-        secret: &'b RecordSecret<'b>,
-        entry: &Entry,
-    ) -> Result<Verdict, AllocError>
-        requires runners { AreOf self.now runners.old }
-        ensures text { OnOk result (text.new.items
-            ≡ text.old.items ++ test_of self.now strict number secret.now entry.now) }
-        ensures verdict { IfOk result (λ verdict.
-            verdict ≡ entry_verdict self.now secret.now entry.now) }
-        ensures kept { runners.new ≡ runners.old }
-    {
-        let alloc = *text.allocator();
-        let (mut name, mut told) = (Vec::new(alloc), Vec::new(alloc));
-        push_name(&mut name, number, entry.identifier.as_slice())?;
-        let verdict = self.push_plain(&mut told, runners, number, secret, entry)?;
-        push_test(
-            text,
-            has_passed(strict, verdict),
-            number,
-            without_last(&name),
-            &told,
-        )?;
-        Ok(verdict)
-    }
-
-    // What is said of a record.
-    #[tactic(auto, unfolding(crate::specs::Replays::entry_text))]
-    fn push_entry<'b>(
-        &'b self,
-        text: &mut Vec<u8>,
-        runners: &mut Runners<'a>,
-        number: u64,
-        secret: &'b RecordSecret<'b>,
-        entry: &Entry,
-    ) -> Result<Verdict, AllocError>
-        requires runners { AreOf self.now runners.old }
-        ensures text { OnOk result (text.new.items
-            ≡ text.old.items ++ entry_text self.now number secret.now entry.now) }
-        ensures verdict { IfOk result (λ verdict.
-            verdict ≡ entry_verdict self.now secret.now entry.now) }
-        ensures kept { runners.new ≡ runners.old }
-    {
-        match self.layout {
-            Layout::Plain => self.push_plain(text, runners, number, secret, entry),
-            Layout::Tests => self.push_test(text, runners, false, number, secret, entry),
-            Layout::StrictTests => self.push_test(text, runners, true, number, secret, entry),
-            Layout::Json => self.push_json(text, runners, number, secret, entry),
-        }
-    }
-
-    // The lines that changed the answer to a record, where it is compared with that of another policy.
-    fn lines_beside_policy<'b>(
-        &'b self,
-        alloc: Global,
-        comparison: &'b Comparison<'b>,
-        against: &'b PreparedPolicy<'b>,
-        secret: &'b RecordSecret<'b>,
-        entry: &Entry,
-    ) -> Result<Vec<PolicyLine>, AllocError>
-        ensures { IfOk result (λ lines. lines.items ≡ compared_lines self.now comparison.now
-            (Policy against.entry) secret.now entry.now) }
-    {
-        let new = run_of(alloc, self.policy, secret, entry)?;
-        let old = run_of(alloc, against, secret, entry)?;
-        comparison.lines_beside(alloc, new, old)
-    }
-
-    // The same, where it is compared with the reply that was captured.
-    fn lines_beside_captured<'b>(
-        &'b self,
-        alloc: Global,
-        runners: &mut Runners<'a>,
-        comparison: &'b Comparison<'b>,
-        secret: &'b RecordSecret<'b>,
-        entry: &Entry,
-    ) -> Result<Vec<PolicyLine>, AllocError>
-        requires runners { runners.old.own ≡ self.now.policy.now }
-        ensures lines { IfOk result (λ lines. lines.items
-            ≡ compared_lines self.now comparison.now Captured secret.now entry.now) }
-        ensures kept { runners.new ≡ runners.old }
-    {
-        let new = run_of(alloc, self.policy, secret, entry)?;
-        let replies = entry_replies(alloc, &mut runners.own, secret, entry)?;
-        comparison.lines_alone(alloc, new, &replies)
-    }
-
-    // The lines that changed the answer to a record, where it is compared.
-    fn compared_lines<'b>(
-        &'b self,
-        alloc: Global,
-        runners: &mut Runners<'a>,
-        comparison: &'b Comparison<'b>,
-        secret: &'b RecordSecret<'b>,
-        entry: &Entry,
-    ) -> Result<Vec<PolicyLine>, AllocError>
-        requires runners { runners.old.own ≡ self.now.policy.now }
-        ensures lines { IfOk result (λ lines. lines.items
-            ≡ lines_on self.now (Some comparison.now) secret.now entry.now) }
-        ensures kept { runners.new ≡ runners.old }
-    {
-        match &comparison.against {
-            Against::Policy(against) => {
-                self.lines_beside_policy(alloc, comparison, *against, secret, entry)
-            }
-            Against::Captured => self.lines_beside_captured(
-                alloc, runners, comparison, secret, entry,
-            ),
-        }
-    }
-
-    // The lines that made a record different. No run is made again for a record that is not.
-    fn entry_lines<'b>(
-        &'b self,
-        alloc: Global,
-        runners: &mut Runners<'a>,
-        verdict: Verdict,
-        secret: &'b RecordSecret<'b>,
-        entry: &Entry,
-    ) -> Result<Vec<PolicyLine>, AllocError>
-        requires runners { runners.old.own ≡ self.now.policy.now }
-        ensures lines { IfOk result (λ lines. lines.items
-            ≡ lines_if verdict (lines_on self.now self.now.comparison secret.now entry.now)) }
-        ensures kept { runners.new ≡ runners.old }
-    {
-        match (verdict, &self.comparison) {
-            (Verdict::Different, Some(comparison)) => {
-                self.compared_lines(alloc, runners, comparison, secret, entry)
-            }
-            _ => Ok(Vec::new(alloc)),
-        }
-    }
-
-    // What is said of a record, and the counts with it.
-    #[tactic(auto, unfolding(crate::specs::Replays::entry_lines))]
-    fn push_counted<'b>(
-        &'b self,
-        text: &mut Vec<u8>,
-        runners: &mut Runners<'a>,
-        secret: &'b RecordSecret<'b>,
-        entry: &Entry,
-        number: u64,
-        summary: Summary,
-    ) -> Result<Summary, AllocError>
-        requires runners { AreOf self.now runners.old }
-        requires room { summary.read + 1 < 2 ^ 64 }
-        requires within { CountsWithin summary }
-        ensures text { OnOk result (text.new.items
-            ≡ text.old.items ++ entry_text self.now number secret.now entry.now) }
-        ensures summary { IfOk result (λ after.
-            after ≡ entry_counted self.now summary secret.now entry.now) }
-        ensures kept { runners.new ≡ runners.old }
-    {
-        let alloc = *text.allocator();
-        let verdict = self.push_entry(text, runners, number, secret, entry)?;
-        let lines = self.entry_lines(alloc, runners, verdict, secret, entry)?;
-        summary.counted_with(verdict, &lines)
-    }
-
     // Writes what is to be said of a record.
     fn tell_entry<'b, W: Write>(
         &'b self,
@@ -546,7 +221,7 @@ impl<'a> Replay<'a> {
     }
 
     // Writes what is to be said of a line.
-    #[tactic(auto, unfolding(crate::specs::Replays::record_text, crate::specs::Replays::verdict_of, crate::specs::Replays::record_lines))]
+    #[tactic(auto, unfolding(crate::specs::Replays::record_text, crate::specs::Replays::verdict_of, crate::specs::Replays::record_lines, crate::specs::Replays::record_difference))]
     fn tell<W: Write>(
         &self,
         alloc: Global,

@@ -1,9 +1,11 @@
 //! How many records there were of each kind.
 
-ghost use Rattle.std.specs.Prelude.{◌≡◌, ◌<◌, ◌+◌, ◌^◌, IfOk};
-ghost use Rattle.radpolicy_replay_records.specs.Replays.{counted, counted_with, no_records};
-ghost use Rattle.radpolicy_replay_records.specs.internal.Positions.{CountsWithin};
+ghost use Rattle.std.specs.Prelude.{◌≡◌, ◌<◌, ◌+◌, ◌^◌, All, IfOk};
+ghost use Rattle.radpolicy_replay_records.specs.Replays.{counted, counted_with, no_records, summary_with};
+ghost use Rattle.radpolicy_replay_records.specs.declared.difference_counts.DifferenceCount.{DifferenceCount as Count};
+ghost use Rattle.radpolicy_replay_records.specs.internal.Positions.{KindsWithin};
 
+use crate::difference_counts::DifferenceCounts;
 use crate::line_counts::LineCounts;
 use radpolicy_changing_lines::PolicyLine;
 use radpolicy_record_answers::Verdict;
@@ -18,8 +20,11 @@ pub struct Summary {
     pub unanswered: u64,
     pub challenged: u64,
     pub refused: u64,
+    pub left_out: u64,
     /// Of those that are different, how many go back to each line of the policies.
     pub lines: LineCounts,
+    /// How many have each difference.
+    pub differences: DifferenceCounts,
 }
 
 impl Summary {
@@ -33,15 +38,18 @@ impl Summary {
             unanswered: 0,
             challenged: 0,
             refused: 0,
+            left_out: 0,
             lines: LineCounts::new(alloc),
+            differences: DifferenceCounts::new(alloc),
         }
     }
 
     // The same with one record more.
     fn counted(self, verdict: Verdict) -> Summary
         requires room { self.read + 1 < 2 ^ 64 }
-        requires within { CountsWithin self }
-        ensures { result ≡ counted self verdict }
+        requires within { KindsWithin self }
+        ensures counts { result ≡ counted self verdict }
+        ensures kept { result.differences ≡ self.differences }
     {
         let read = self.read + 1;
         match verdict {
@@ -71,6 +79,11 @@ impl Summary {
                 refused: self.refused + 1,
                 ..self
             },
+            Verdict::LeftOut => Summary {
+                read,
+                left_out: self.left_out + 1,
+                ..self
+            },
         }
     }
 
@@ -82,8 +95,9 @@ impl Summary {
         lines: &[PolicyLine],
     ) -> Result<Summary, AllocError>
         requires room { self.read + 1 < 2 ^ 64 }
-        requires within { CountsWithin self }
-        ensures { IfOk result (λ after. after ≡ counted_with self verdict lines.now) }
+        requires within { KindsWithin self }
+        ensures counts { IfOk result (λ after. after ≡ counted_with self verdict lines.now) }
+        ensures kept { IfOk result (λ after. after.differences ≡ self.differences) }
     {
         if lines.len() < 1 {
             return Ok(self.counted(verdict));
@@ -93,5 +107,18 @@ impl Summary {
             lines: counts,
             ..self.counted(verdict)
         })
+    }
+
+    /// The same with the difference of the record of this name, if it has one.
+    pub(crate) fn with_difference(
+        mut self,
+        name: &[u8],
+        difference: &[u8],
+    ) -> Result<Summary, AllocError>
+        requires { All (λ (count : Count). count.records + 1 < 2 ^ 64) self.differences }
+        ensures { IfOk result (λ after. after ≡ summary_with self name.now difference.now) }
+    {
+        self.differences.count(name, difference)?;
+        Ok(self)
     }
 }

@@ -14,6 +14,8 @@ pub enum Format {
     Detail,
     /// What `freeradius -X` prints.
     DebugLog,
+    /// What it prints of requests that come out of a tunnel, as of PEAP and TTLS, and go to a virtual server.
+    InnerLog,
     /// What `radclient -x` prints.
     Radclient,
     /// What `radsniff -x` prints.

@@ -102,6 +102,39 @@ pub(crate) fn log_heading<'a>(number: &'a [u8], text: &'a [u8]) -> Option<LogHea
     Some(LogHeading { heading, is_sent })
 }
 
+/// `Virtual server NAME received request` of a server's log, after the request's number: the name.
+pub(crate) fn inner_server(text: &[u8]) -> Option<&[u8]> {
+    let mut words = Words(text);
+    if !is(words.next(), "Virtual") || !is(words.next(), "server") {
+        return None;
+    }
+    let name = words.next();
+    if is(words.next(), "received") && is(words.next(), "request") {
+        Some(name)
+    } else {
+        None
+    }
+}
+
+/// `MODULE: Got tunneled reply code N` of a server's log, after the request's number, or `MODULE: Got tunneled CODE`: the
+/// type of the reply from the virtual server.
+pub(crate) fn inner_answer(text: &[u8]) -> Option<Code> {
+    let mut words = Words(text);
+    words.next();
+    if !is(words.next(), "Got") || !is(words.next(), "tunneled") {
+        return None;
+    }
+    let code = words.next();
+    if !is(code, "reply") {
+        return Some(Code::named(code));
+    }
+    if is(words.next(), "code") {
+        Some(Code::numbered(words.next()))
+    } else {
+        None
+    }
+}
+
 /// `Sent CODE Id I from ADDRESS:PORT to ADDRESS:PORT ..` of radclient, or `Received ..`.
 pub(crate) fn client_heading(line: &[u8]) -> Option<Heading<'_>> {
     let mut words = Words(line);

@@ -7,7 +7,8 @@ ghost use Rattle.radpolicy_traffic.specs.internal.Marks.{IsMarkOf, IsNoAttribute
 use crate::attributes::{name_of, value_of};
 use crate::formats::Format;
 use crate::headings::{
-    Heading, Key, LogHeading, client_heading, log_heading, sniffed_line, unanswered_identifier,
+    Heading, Key, LogHeading, client_heading, inner_answer, inner_server, log_heading,
+    sniffed_line, unanswered_identifier,
 };
 use crate::records::Code;
 use crate::texts::{after, after_blanks, is, is_number};
@@ -46,6 +47,8 @@ pub(crate) enum Mark<'a> {
     },
     /// The type of the packet that is being read.
     Code(Code),
+    /// The type of the reply that was read.
+    Answered(Owner<'a>, Code),
     /// The address that it came from.
     Source(&'a [u8]),
     /// The packet that was being read is over.
@@ -201,6 +204,54 @@ fn mark_of_log(line: &[u8]) -> Mark<'_>
     }
 }
 
+// A request out of a tunnel, in a server's log. It has no address.
+fn inner_heading(number: &[u8], code: Code) -> Heading<'_> {
+    Heading {
+        key: Key::of_number(number),
+        identifier: number,
+        source: None,
+        code,
+        is_again: false,
+    }
+}
+
+/// The virtual server that a line of a server's log says to have received a request out of a tunnel.
+pub(crate) fn receiving_server(line: &[u8]) -> Option<&[u8]> {
+    let (_, rest) = split_number(line)?;
+    inner_server(after_blanks(rest))
+}
+
+// A line of a server's log, of requests out of tunnels.
+fn mark_of_inner_log(line: &[u8]) -> Mark<'_>
+    ensures { IsMarkOf line.now result }
+{
+    let Some((number, rest)) = split_number(line) else {
+        return Mark::Nothing;
+    };
+    let owner = Owner::Keyed(Key::of_number(number));
+    let text = after_blanks(rest);
+    if is_log_attribute(rest) {
+        return Mark::Attribute {
+            owner,
+            lines: Lines::Packet,
+            text,
+        };
+    }
+    if text.starts_with(b"Finished request") || text.starts_with(b"Cleaning up request") {
+        return Mark::End(owner);
+    }
+    if inner_server(text).is_some() {
+        return Mark::Request(inner_heading(number, Code::AccessRequest));
+    }
+    if text.starts_with(b"Virtual server sending reply") {
+        return Mark::Reply(inner_heading(number, Code::Other));
+    }
+    match inner_answer(text) {
+        Some(code) => Mark::Answered(owner, code),
+        None => Mark::Pause(owner),
+    }
+}
+
 // What a server sends may be a request to another server, and what it receives a reply.
 fn log_packet_mark<'a>(owner: Owner<'a>, heading: LogHeading<'a>) -> Mark<'a>
     ensures { IsNoAttribute result }
@@ -283,6 +334,7 @@ pub(crate) fn mark_of(format: Format, line: &[u8]) -> Mark<'_>
         Format::Records => mark_of_records(line),
         Format::Detail => mark_of_detail(line),
         Format::DebugLog => mark_of_log(line),
+        Format::InnerLog => mark_of_inner_log(line),
         Format::Radclient => mark_of_client(line),
         Format::Radsniff => mark_of_sniff(line),
     }

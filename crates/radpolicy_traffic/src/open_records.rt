@@ -121,11 +121,11 @@ impl OpenRecord {
         self.is_done
     }
 
-    /// The packet that was being read is over; with the reply, the record is.
-    pub(crate) fn pause(&mut self)
+    /// The packet that was being read is over; with the reply the record is, unless its type is still to be told.
+    pub(crate) fn pause(&mut self, awaits_code: bool)
         ensures { KeepsTexts self.old.record self.new.record }
     {
-        self.is_done = self.is_done || self.part == Part::Reply;
+        self.is_done = self.is_done || (self.part == Part::Reply && !awaits_code);
         self.part = Part::Nothing;
     }
 
@@ -143,6 +143,16 @@ impl OpenRecord {
     {
         self.guesses_code = false;
         self.record.code = code;
+    }
+
+    /// A line says the type of the reply, after which no more lines come.
+    pub(crate) fn set_reply_code(&mut self, code: Code)
+        ensures { KeepsTexts self.old.record self.new.record }
+    {
+        if let Some(reply) = &mut self.record.reply {
+            reply.code = code;
+        }
+        self.finish();
     }
 
     /// A line says where the request came from.

@@ -8,7 +8,7 @@ ghost use Rattle.radpolicy_traffic.specs.internal.Marks.{IsMarkOf};
 
 use crate::formats::Format;
 use crate::headings::Heading;
-use crate::marks::{Lines, Mark, Owner, mark_of};
+use crate::marks::{Lines, Mark, Owner, mark_of, receiving_server};
 use crate::open_records::OpenRecord;
 use crate::records::{Code, Record};
 use std::alloc::{AllocError, Global};
@@ -22,6 +22,8 @@ pub const MAX_OPEN: usize = 256;
 #[derive(Drop)]
 pub struct Reader {
     format: Format,
+    // Of a log with requests out of tunnels, the virtual server to which these go.
+    server: Vec<u8>,
     // In the order in which the requests begin.
     records: Vec<OpenRecord>,
     // How many lines were given.
@@ -60,9 +62,22 @@ impl Reader {
     {
         Reader {
             format,
+            server: Vec::new(alloc),
             records: Vec::new(alloc),
             lines: 0,
         }
+    }
+
+    /// A reader of a server's log, of the requests out of tunnels that go to a virtual server.
+    pub fn of_server(alloc: Global, server: &[u8]) -> Result<Reader, AllocError>
+        ensures { IfOk result (λ reader. vec_len reader.records ≡ 0) }
+    {
+        Ok(Reader {
+            format: Format::InnerLog,
+            server: Vec::from_slice(alloc, server)?,
+            records: Vec::new(alloc),
+            lines: 0,
+        })
     }
 
     // Takes out the one that is given out next, where there are so many.
@@ -86,8 +101,20 @@ impl Reader {
         ensures held { (line : List ℕ) (olds : List AnOpenRecord)
             → AreFrom line olds self.old.records.items → AreFrom line olds self.new.records.items }
     {
+        let awaits_code = self.format == Format::InnerLog;
         if let Some(place) = place_of(&self.records, owner) {
-            self.records[place].pause();
+            self.records[place].pause(awaits_code);
+        }
+    }
+
+    // The type of the reply that was read.
+    fn set_reply_code(&mut self, owner: &Owner<'_>, code: Code)
+        ensures count { vec_len self.new.records ≡ vec_len self.old.records }
+        ensures held { (line : List ℕ) (olds : List AnOpenRecord)
+            → AreFrom line olds self.old.records.items → AreFrom line olds self.new.records.items }
+    {
+        if let Some(place) = place_of(&self.records, owner) {
+            self.records[place].set_reply_code(code);
         }
     }
 
@@ -97,7 +124,7 @@ impl Reader {
         ensures held { (line : List ℕ) (olds : List AnOpenRecord)
             → AreFrom line olds self.old.records.items → AreFrom line olds self.new.records.items }
     {
-        if self.format != Format::DebugLog {
+        if !matches!(self.format, Format::DebugLog | Format::InnerLog) {
             self.pause(&Owner::Current);
         }
     }
@@ -233,6 +260,24 @@ impl Reader {
         self.push(begun)
     }
 
+    // Whether a line begins a request to another virtual server.
+    fn is_of_another(&self, line: &[u8]) -> bool {
+        self.format == Format::InnerLog
+            && receiving_server(line).is_some_and(|name| name != self.server.as_slice())
+    }
+
+    // What a line is to this reader: a request to another virtual server ends what its number has before it.
+    fn mark_of<'b>(&self, line: &'b [u8]) -> Mark<'b>
+        ensures { IsMarkOf line.now result }
+    {
+        match mark_of(self.format, line) {
+            Mark::Request(heading) if self.is_of_another(line) => {
+                Mark::End(Owner::Keyed(heading.key))
+            }
+            mark => mark,
+        }
+    }
+
     // Whether a record begins that no line announces.
     fn begins_unannounced(&self, mark: &Mark<'_>) -> bool {
         self.format == Format::Records
@@ -255,6 +300,10 @@ impl Reader {
             Mark::Attribute { owner, lines, text } => self.add(alloc, owner, *lines, text),
             Mark::Code(code) => {
                 self.set_code(*code);
+                Ok(())
+            }
+            Mark::Answered(owner, code) => {
+                self.set_reply_code(owner, *code);
                 Ok(())
             }
             Mark::Source(address) => self.set_source(address),
@@ -280,7 +329,7 @@ impl Reader {
     {
         let alloc = *self.records.allocator();
         self.lines = self.lines.saturating_add(1);
-        let mark = mark_of(self.format, line);
+        let mark = self.mark_of(line);
         if let Mark::Request(heading) = &mark {
             return self.begin(alloc, heading);
         }

@@ -75,6 +75,19 @@ impl Code {
         }
     }
 
+    /// The type of a reply with this number (RFC 2865, section 3).
+    pub(crate) fn numbered(number: &[u8]) -> Code {
+        if is(number, "2") {
+            Code::AccessAccept
+        } else if is(number, "3") {
+            Code::AccessReject
+        } else if is(number, "11") {
+            Code::AccessChallenge
+        } else {
+            Code::Other
+        }
+    }
+
     /// Whether a server answers it.
     pub(crate) fn is_request(self) -> bool {
         matches!(self, Code::AccessRequest | Code::AccountingRequest)

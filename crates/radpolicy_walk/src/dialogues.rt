@@ -6,13 +6,16 @@ use avp_lists::{EditFault, List, Pair};
 use radpolicy::{Fault, PreparedPolicy, RequestHead, Start};
 use radpolicy_common::{Hiding, LineBreaks, PLAIN_STYLE, Stream, Style, visible_text};
 use radpolicy_walk_commands::{
-    Asked, Command, HELP_TEXT, Session, SourceLines, around_text, breaks_text, has_step_on,
-    history_text, instances_text, lists_text, nearest_line, read_command, source_text, trace_text,
-    why_text, with_set,
+    Asked, Command, HELP_TEXT, Session, SourceLines, around_text, breaks_text, fails_after,
+    has_step_on, history_text, instances_text, lists_text, nearest_line, read_command, source_text,
+    trace_text, why_text, with_set,
 };
 use std::alloc::{AllocError, AllocFailed, Global};
 use std::io;
 use std::io::{IsTerminal, Write};
+
+// The octet with which a terminal begins what a key says that moves.
+const ESCAPE: u8 = 0x1b;
 
 /// How a dialogue ended.
 #[derive(Clone, Copy, Debug, PartialEq, Eq)]
@@ -76,6 +79,8 @@ pub struct Dialogue<'a, 't> {
     beginning: Beginning<'a>,
     session: Session<'a>,
     lines: PolicyLines<'t>,
+    // What is said at the start.
+    title: &'t [u8],
     last: Command,
     is_coloured: bool,
 }
@@ -192,17 +197,19 @@ fn refused(rt: &HostRuntime, fault: Fault) -> Result<(), Ending> {
 }
 
 impl<'a, 't> Dialogue<'a, 't> {
-    /// A dialogue over the run of a session.
+    /// A dialogue over the run of a session, which begins with this title.
     pub fn new(
         rt: &HostRuntime,
         beginning: Beginning<'a>,
         session: Session<'a>,
         lines: PolicyLines<'t>,
+        title: &'t [u8],
     ) -> Dialogue<'a, 't> {
         Dialogue {
             beginning,
             session,
             lines,
+            title,
             last: Command::Show(None),
             is_coloured: Stream::Output.is_coloured(rt),
         }
@@ -248,6 +255,7 @@ impl<'a, 't> Dialogue<'a, 't> {
         let lines = &self.lines;
         match command {
             Command::Show(_) => self.lists_text(alloc, command),
+            Command::Where => self.place_text(alloc),
             Command::Print(id) => instances_text(alloc, &self.session, id),
             Command::History(id) => history_text(alloc, &mut self.session, id),
             Command::Why => why_text(alloc, &mut self.session, &lines.read, &lines.shown),
@@ -274,6 +282,11 @@ impl<'a, 't> Dialogue<'a, 't> {
                 let _ = eprintln!(rt; "the last position is {last}");
                 true
             }
+            Command::UntilFailure if !fails_after(self.session.steps(), self.session.position()) =>
+                {
+                    let _ = eprintln!(rt; "nothing fails from here on; this is the last position");
+                    true
+                }
             _ => true,
         }
     }
@@ -347,6 +360,12 @@ impl<'a, 't> Dialogue<'a, 't> {
 
     // Makes what a line asks for; false at the command to end.
     fn obey(&mut self, rt: &HostRuntime, line: &str) -> Result<bool, Ending> {
+        if line.as_bytes().contains(&ESCAPE) {
+            let _ = eprintln!(rt;
+                "keys that move are not read: an empty line repeats the command before"
+            );
+            return Ok(true);
+        }
         match read_command(rt.alloc(), self.session.dictionary(), line)? {
             Asked::Make(Command::Quit) => return Ok(false),
             Asked::Make(command) => self.make(rt, command)?,
@@ -393,9 +412,14 @@ impl<'a, 't> Dialogue<'a, 't> {
         Ok(())
     }
 
+    fn begin(&mut self, rt: &HostRuntime) -> Result<(), Ending> {
+        self.show(rt, self.title)?;
+        self.make(rt, Command::Show(None))
+    }
+
     /// Shows the start, and then makes the commands of standard input.
     pub fn follow_input(&mut self, rt: &HostRuntime) -> Ending {
-        match self.make(rt, Command::Show(None)) {
+        match self.begin(rt) {
             Ok(()) => self.obey_input(rt).err().unwrap_or(Ending::Done),
             Err(ending) => ending,
         }
@@ -403,7 +427,7 @@ impl<'a, 't> Dialogue<'a, 't> {
 
     /// Shows the start, and then makes the commands of a script.
     pub fn follow_script(&mut self, rt: &HostRuntime, script: &[u8]) -> Ending {
-        match self.make(rt, Command::Show(None)) {
+        match self.begin(rt) {
             Ok(()) => self.obey_script(rt, script).err().unwrap_or(Ending::Done),
             Err(ending) => ending,
         }

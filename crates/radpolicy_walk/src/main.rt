@@ -3,7 +3,6 @@
 
 mod command_line;
 mod dialogues;
-mod records;
 
 ghost use Rattle.std.specs.Prelude.{◌≡◌, ◌<◌, IfErr, IfOk, length};
 ghost use Rattle.avp_dict.specs.Lines.{HasDistinctNames};
@@ -11,24 +10,28 @@ ghost use Rattle.radpolicy.specs.Faults.{IsPrintedAnywhere, IsPrintedWith};
 
 use crate::command_line::{Plan, help_text, read_words};
 use crate::dialogues::{Beginning, Dialogue, Ending, PolicyLines};
-use crate::records::{form_of_record, read_record};
 use avp_dict::{Dictionary, FileSet};
 use avp_forms::Profile;
 use avp_lists::{AttrId, Octets};
-use hex::FromHexError;
-use radpolicy::{Fault, Form, PreparedPolicy, RequestHead, RequestKind, Secret, Start};
+use radpolicy::{
+    Fault, Form, PreparedPolicy, RequestHead, RequestKind, Secret, Start, hex_octets, status,
+};
 use radpolicy_common::{
-    Hiding, Unread, command_words, named_attributes, policy_shown, read_dictionary_set, read_file,
-    read_optional, read_standard_input, refuse, refuse_early, refuse_unread, show_help,
+    Hiding, LineBreaks, Unread, command_words, dictionaries_meant, file_kind, lent_paths,
+    named_attributes, policy_shown, read_dictionary_set, read_file, read_optional,
+    read_standard_input, refuse, refuse_early, refuse_kind, refuse_unread, show_help, visible_text,
 };
 use radpolicy_help::{
     STANDARD_INPUT, Source, Sources, refuse_explained, refuse_name, refuse_unread_explained,
     refuse_words_of,
 };
-use radpolicy_traffic::Record;
+use radpolicy_record_answers::{AskedRecord, RecordedRequest, Search, find_record, search_text};
 use radpolicy_walk_commands::Session;
 use std::alloc::{AllocError, Global};
+use std::io::Write;
 use std::process::ExitCode;
+
+const PROGRAM: &str = "radpolicy-walk";
 
 // What the files of a plan hold.
 #[derive(Drop)]
@@ -40,6 +43,8 @@ struct Files {
     reply: Option<Octets>,
     control: Option<Octets>,
     script: Option<Octets>,
+    // What is said of the record that is the request; empty where the file is it.
+    title: Octets,
 }
 
 fn read_request<'a>(rt: &HostRuntime, plan: &Plan<'a>) -> Result<Octets, Unread<'a>> {
@@ -63,52 +68,40 @@ fn read_files<'a>(rt: &HostRuntime, plan: &Plan<'a>) -> Result<Files, Unread<'a>
         reply: read_optional(rt, plan.reply)?,
         control: read_optional(rt, plan.control)?,
         script: read_optional(rt, plan.script)?,
+        title: Octets::from_vec(Vec::new(rt.alloc())),
     })
 }
 
 // Puts the request of a record in the place of the file's text, and the lists that it begins with where no file has
 // them; and says how the request is given.
-fn take_record(alloc: Global, files: &mut Files, number: usize) -> Result<Form, Fault>
-    ensures dictionary { files.new.dictionary ≡ files.old.dictionary }
-    ensures refused { IfErr result IsPrintedAnywhere }
+fn take_record(files: &mut Files, record: RecordedRequest) -> Form
+    ensures { files.new.dictionary ≡ files.old.dictionary }
 {
-    let record = read_record(alloc, files.request.as_slice(), number)?;
-    let form = form_of_record(&record)?;
-    let Record {
-        request,
-        initial_reply,
-        initial_control,
-        ..
+    let RecordedRequest {
+        form,
+        text,
+        reply,
+        control,
+        title,
     } = record;
-    files.request = Octets::from_vec(request);
+    files.request = Octets::from_vec(text);
     if files.reply.is_none() {
-        files.reply = Some(Octets::from_vec(initial_reply));
+        files.reply = Some(Octets::from_vec(reply));
     }
     if files.control.is_none() {
-        files.control = Some(Octets::from_vec(initial_control));
+        files.control = Some(Octets::from_vec(control));
     }
-    Ok(form)
-}
-
-fn without_white_space(alloc: Global, text: &[u8]) -> Result<Vec<u8>, AllocError> {
-    let mut digits = Vec::new(alloc);
-    for octet in text {
-        if !matches!(*octet, b' ' | b'\t' | b'\r' | b'\n') {
-            digits.push(*octet)?;
-        }
-    }
-    Ok(digits)
+    files.title = Octets::from_vec(title.into_bytes());
+    form
 }
 
 // The octets of a packet in hexadecimal digits.
 fn packet_octets(alloc: Global, text: &[u8]) -> Result<Vec<u8>, Fault>
     ensures { IfErr result IsPrintedAnywhere }
 {
-    let digits = without_white_space(alloc, text)?;
-    match hex::decode(alloc, digits) {
-        Ok(octets) => Ok(octets),
-        Err(FromHexError::OutOfMemory) => Err(Fault::Memory),
-        Err(_) => Err(Fault::NotHex),
+    match hex_octets(alloc, text)? {
+        Some(octets) => Ok(octets),
+        None => Err(Fault::NotHex),
     }
 }
 
@@ -188,9 +181,9 @@ fn secret_in(file: &Option<Octets>) -> Result<Option<Secret<'_>>, Fault>
 fn status_of_ending(rt: &HostRuntime, ending: Ending) -> u8 {
     match ending {
         Ending::Done => 0,
-        Ending::Memory => refuse_early(rt, &Fault::Memory),
-        Ending::Output => refuse_early(rt, &Fault::Write),
-        Ending::Input => refuse_unread(rt, Unread::File("-")),
+        Ending::Memory => refuse_early(rt, PROGRAM, &Fault::Memory),
+        Ending::Output => refuse_early(rt, PROGRAM, &Fault::Write),
+        Ending::Input => refuse_unread(rt, PROGRAM, Unread::File("-")),
     }
 }
 
@@ -206,7 +199,7 @@ fn walk_from<'a>(
     let session = Session::new(alloc, start, beginning.hiding)?;
     let shown = policy_shown(alloc, session.redaction(), text)?;
     let lines = PolicyLines::new(alloc, text, &shown)?;
-    let mut dialogue = Dialogue::new(rt, beginning, session, lines);
+    let mut dialogue = Dialogue::new(rt, beginning, session, lines, files.title.as_slice());
     Ok(match &files.script {
         Some(script) => dialogue.follow_script(rt, script.as_slice()),
         None => dialogue.follow_input(rt),
@@ -253,7 +246,7 @@ fn walk_by(rt: &HostRuntime, plan: &Plan<'_>, form: Form, files: &Files) -> Resu
     let dictionary = Dictionary::read(alloc, &files.dictionary)?;
     let given = match named_attributes(alloc, &dictionary, &plan.hidden)? {
         Ok(given) => given,
-        Err(name) => return Ok(refuse_name(rt, &dictionary, name)),
+        Err(name) => return Ok(refuse_name(rt, PROGRAM, &dictionary, name)),
     };
     let status = walk_with(rt, plan, form, files, &dictionary, &given)?;
     Ok(status)
@@ -266,11 +259,11 @@ fn octets_in(file: &Option<Octets>) -> &[u8] {
     }
 }
 
-// The name of the request in a place: that of its file, and the number of the record in it.
+// The name of the request in a place: that of its file, and that of the record in it.
 fn request_name(alloc: Global, plan: &Plan<'_>) -> Result<String, AllocError> {
     let path = plan.request.unwrap_or(STANDARD_INPUT);
     match plan.record {
-        Some(number) => format!(in alloc; "{path} record {number}"),
+        Some(name) => format!(in alloc; "{path} record {name}"),
         None => format!(in alloc; "{path}"),
     }
 }
@@ -323,30 +316,47 @@ fn refuse_files(rt: &HostRuntime, plan: &Plan<'_>, files: &Files, fault: &Fault)
     requires { IsPrintedWith files.now.dictionary fault.now }
 {
     let Ok(request) = request_name(rt.alloc(), plan) else {
-        return refuse(rt, fault, &files.dictionary);
+        return refuse(rt, PROGRAM, fault, &files.dictionary);
     };
     let sources = sources_of(plan, files, request.as_str(), fault);
-    refuse_explained(rt, fault, &files.dictionary, &sources)
+    refuse_explained(rt, PROGRAM, fault, &files.dictionary, &sources)
 }
 
-// What is said of the number of a record that is not read.
-fn record_text(alloc: Global, plan: &Plan<'_>) -> Result<String, AllocError> {
-    let request = request_name(alloc, plan)?;
-    format!(in alloc; "there is no {request}, or it is no request whose lines are all there\n")
+fn asked_record<'a>(plan: &Plan<'a>, name: &'a str) -> AskedRecord<'a> {
+    AskedRecord {
+        form: plan.form,
+        name,
+        server: plan.server,
+    }
+}
+
+// Says why the record of this name is not the request.
+fn refuse_record(rt: &HostRuntime, plan: &Plan<'_>, name: &str, search: &Search) -> u8 {
+    let _ = eprint!(rt; "{PROGRAM}: ");
+    let path = plan.request.unwrap_or(STANDARD_INPUT);
+    if let Ok(said) = search_text(rt.alloc(), path, name, search) {
+        let _ = rt.stderr().write_all(&said);
+    }
+    status(&Fault::OptionValue)
 }
 
 fn walk_plan(rt: &HostRuntime, plan: &Plan<'_>) -> u8 {
     let mut files = match read_files(rt, plan) {
         Ok(files) => files,
-        Err(unread) => return refuse_unread_explained(rt, unread),
+        Err(unread) => return refuse_unread_explained(rt, PROGRAM, unread),
     };
+    if let Some(kind) = file_kind(files.request.as_slice()) {
+        return refuse_kind(rt, PROGRAM, plan.request.unwrap_or(STANDARD_INPUT), kind);
+    }
     let form = match plan.record {
-        Some(number) => match take_record(rt.alloc(), &mut files, number) {
-            Ok(form) => form,
-            Err(fault) => {
-                let said = record_text(rt.alloc(), plan);
-                return refuse_words_of(rt, &fault, "radpolicy-walk", said);
-            }
+        Some(name) => match find_record(
+            rt.alloc(),
+            files.request.as_slice(),
+            asked_record(plan, name),
+        ) {
+            Ok(Search::Found(record)) => take_record(&mut files, record),
+            Ok(search) => return refuse_record(rt, plan, name, &search),
+            Err(_) => return refuse_early(rt, PROGRAM, &Fault::Memory),
         },
         None => plan.form,
     };
@@ -356,16 +366,35 @@ fn walk_plan(rt: &HostRuntime, plan: &Plan<'_>) -> u8 {
     }
 }
 
+// The walk that the words ask for, with the dictionaries that they mean.
+fn walk_by_meant<'a>(rt: &HostRuntime, words: &'a [String], paths: &'a [String]) -> u8 {
+    let Ok(lent) = lent_paths(rt.alloc(), paths) else {
+        return refuse_early(rt, PROGRAM, &Fault::Memory);
+    };
+    match read_words(rt.alloc(), words) {
+        Ok(plan) => {
+            let mut meant = plan;
+            meant.dictionaries = lent;
+            walk_plan(rt, &meant)
+        }
+        // The words were read before, so only memory is wanting.
+        Err(_) => refuse_early(rt, PROGRAM, &Fault::Memory),
+    }
+}
+
 fn walk_words(rt: &HostRuntime, words: &[String]) -> u8 {
     match read_words(rt.alloc(), words) {
-        Ok(plan) => walk_plan(rt, &plan),
-        Err(Fault::Help) => show_help(rt, help_text(rt.alloc(), words)),
-        Err(fault) => refuse_words_of(rt, &fault, "radpolicy-walk", help_text(rt.alloc(), words)),
+        Ok(plan) => match dictionaries_meant(rt, &plan.dictionaries, plan.folder) {
+            Ok(paths) => walk_by_meant(rt, words, &paths),
+            Err(_) => refuse_early(rt, PROGRAM, &Fault::Memory),
+        },
+        Err(Fault::Help) => show_help(rt, PROGRAM, help_text(rt.alloc(), words)),
+        Err(fault) => refuse_words_of(rt, &fault, PROGRAM, help_text(rt.alloc(), words)),
     }
 }
 
 fn main(rt: HostRuntime) -> ExitCode {
-    let code = match command_words(&rt) {
+    let code = match command_words(&rt, PROGRAM) {
         Ok(words) => walk_words(&rt, words.as_slice()),
         Err(code) => code,
     };

@@ -28,6 +28,8 @@ pub enum Command {
     Delete(usize),
     /// The lines with breaks.
     Breaks,
+    /// The place.
+    Where,
     /// A list, or all three.
     Show(Option<List>),
     /// The instances of an attribute.

@@ -24,5 +24,5 @@ pub use sessions::Session;
 pub use settings::with_set;
 pub use showings::{change_text, list_text};
 pub use sources::SourceLines;
-pub use steps::{Step, has_step_on, line_of, nearest_line};
+pub use steps::{Step, fails_after, has_step_on, line_of, nearest_line};
 pub use words::{Asked, HELP_TEXT, read_command};

@@ -129,6 +129,11 @@ pub fn has_step_on(steps: &[Step], line: usize) -> bool
     steps.iter().any(|step| is_on(line, step))
 }
 
+/// Whether a step after this position is a failure.
+pub fn fails_after(steps: &[Step], from: usize) -> bool {
+    steps.iter().skip(from).skip(1).any(|step| is_failure(step))
+}
+
 /// The line that is nearest to this one, of those that a step of the run is on.
 pub fn nearest_line(steps: &[Step], line: usize) -> Option<usize> {
     let mut nearest: Option<usize> = None;

@@ -81,16 +81,16 @@ comparison_answer w c s =
 -- ---- conditions (`radius_evaluate_cond`, evaluate.c)
 
 -- `&&`: the next one is asked where the first is true
-abbrev pub both : Answer → Answer → Answer
-both None next = None
-both (Some false) next = Some false
-both (Some true) next = next
+abbrev pub answer_both : Answer → Answer → Answer
+answer_both None next = None
+answer_both (Some false) next = Some false
+answer_both (Some true) next = next
 
 -- `||`: the next one is asked where the first is false
-abbrev pub either : Answer → Answer → Answer
-either None next = None
-either (Some true) next = Some true
-either (Some false) next = next
+abbrev pub answer_either : Answer → Answer → Answer
+answer_either None next = None
+answer_either (Some true) next = Some true
+answer_either (Some false) next = next
 
 -- a condition, after this code; a code and a reference are asked for by `radius_evaluate_tmpl`
 abbrev pub answer : Setting → ServerCondition → State → ServerCode → Answer
@@ -99,10 +99,14 @@ answer w (Code word) s c = Some (is_code c word)
 answer w (Present list id) s c = Some (has_instance id (list_of list s))
 answer w (Compare comparison) s c = comparison_answer w comparison s
 answer w (Not' p inner) s c = option_map not (answer w inner s c)
-answer w (And' p first q next) s c = both (answer w first s c) (answer w next s c)
-answer w (Or' p first q next) s c = either (answer w first s c) (answer w next s c)
+answer w (And' p first q next) s c = answer_both (answer w first s c) (answer w next s c)
+answer w (Or' p first q next) s c = answer_either (answer w first s c) (answer w next s c)
 
 -- no answer counts as false (`MOD_IF` in `modcall_recurse`, modcall.c)
 abbrev pub is_true : Answer → Bool
 is_true None = false
 is_true (Some value) = value
+
+abbrev pub is_false : Answer → Bool
+is_false None = false
+is_false (Some value) = not value

@@ -54,7 +54,8 @@ fn is_blank_line(line: &[u8]) -> bool
     line.iter().all(|octet| is_blank(*octet))
 }
 
-fn is_idle_line(line: &[u8]) -> bool
+/// Whether a line of a request or a policy holds no more than blanks and a comment.
+pub fn is_idle_line(line: &[u8]) -> bool
     ensures { result ≡ is_idle_line line.now }
 {
     is_blank_line(without_comment(line))

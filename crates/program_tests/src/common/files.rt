@@ -36,12 +36,12 @@ fn files_are_read_or_named(rt: HostRuntime) -> Result<(), Fail> {
 #[test]
 fn refusals_have_the_statuses_of_their_faults(rt: HostRuntime) -> Result<(), Fail> {
     let files = one_file(rt.alloc(), b"")?;
-    assert_eq!(rt; refuse(&rt, &Fault::EmptySecret, &files), 2);
-    assert_eq!(rt; refuse_early(&rt, &Fault::Memory), 4);
-    assert_eq!(rt; refuse_unread(&rt, Unread::Memory), 4);
-    assert_eq!(rt; refuse_unread(&rt, Unread::NoDictionary), 2);
-    assert_eq!(rt; refuse_unread(&rt, Unread::SameNames), 2);
-    assert_eq!(rt; refuse_unread(&rt, Unread::File(ABSENT)), 3);
+    assert_eq!(rt; refuse(&rt, "radpolicy", &Fault::EmptySecret, &files), 2);
+    assert_eq!(rt; refuse_early(&rt, "radpolicy", &Fault::Memory), 4);
+    assert_eq!(rt; refuse_unread(&rt, "radpolicy", Unread::Memory), 4);
+    assert_eq!(rt; refuse_unread(&rt, "radpolicy", Unread::NoDictionary), 2);
+    assert_eq!(rt; refuse_unread(&rt, "radpolicy", Unread::SameNames), 2);
+    assert_eq!(rt; refuse_unread(&rt, "radpolicy", Unread::File(ABSENT)), 3);
     assert_eq!(rt; Unread::SameNames.fault(), Fault::OptionValue);
     assert_eq!(rt; status(&Unread::File("-").fault()), 3);
     Ok(())

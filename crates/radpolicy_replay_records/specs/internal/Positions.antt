@@ -4,6 +4,7 @@ use Rattle.std.specs.Io.KnownBytes.{Appends}
 use Rattle.avp_dict.specs.Lines.{is_line_end}
 use Rattle.radpolicy_replay_records.specs.Lines.{is_record}
 use Rattle.radpolicy_replay_records.specs.Replays.{ended_text_from, no_records, record_counted, record_text, summary_from, text_from}
+use Rattle.radpolicy_replay_records.specs.declared.difference_counts.DifferenceCount.{DifferenceCount}
 use Rattle.radpolicy_replay_records.specs.declared.line_counts.LineCount.{LineCount}
 use Rattle.radpolicy_replay_records.specs.declared.replays.Replay.{Replay}
 use Rattle.radpolicy_replay_records.specs.declared.replays.ReplayFault.{ReplayFault}
@@ -22,12 +23,17 @@ abbrev pub line_counted : Replay → Summary → List ℕ → Summary
 line_counted replay summary line =
     if is_record line then record_counted replay summary line else summary
 
--- no count is above that of the records
-abbrev pub CountsWithin : Summary → Type 0
-CountsWithin summary = (summary.same ≤ summary.read) × (summary.different ≤ summary.read)
+-- no count of a kind or of a line is above that of the records
+abbrev pub KindsWithin : Summary → Type 0
+KindsWithin summary = (summary.same ≤ summary.read) × (summary.different ≤ summary.read)
     × (summary.unanswered ≤ summary.read) × (summary.challenged ≤ summary.read)
-    × (summary.refused ≤ summary.read)
+    × (summary.refused ≤ summary.read) × (summary.left_out ≤ summary.read)
     × All (λ (count : LineCount). count.records ≤ summary.read) summary.lines
+
+-- nor is one of a difference
+abbrev pub CountsWithin : Summary → Type 0
+CountsWithin summary = KindsWithin summary
+    × All (λ (count : DifferenceCount). count.records ≤ summary.read) summary.differences
 
 -- Where `before` was left before, `after` is left now, and this was written: what is to be written for the one,
 -- whatever follows it, is what was written and what is to be written for the other.

@@ -5,7 +5,7 @@ use avp_dict::Dictionary;
 use radpolicy::{PreparedPolicy, Secret};
 use radpolicy_changing_lines::PolicyLine;
 use radpolicy_common::{Hiding, Redaction, SecretValues};
-use radpolicy_record_answers::{Against, Comparison, Order, Told};
+use radpolicy_record_answers::{Against, Comparison, Order, Shown, Told};
 use radpolicy_replay_records::{Layout, RecordReader, Replay, SharedSecrets, Summary};
 use radpolicy_traffic::Format;
 use std::alloc::{AllocError, Global};
@@ -37,6 +37,12 @@ pub(crate) fn replay_by<'a>(
         shared,
         comparison,
         redaction,
+        shown: Shown {
+            ids: &[],
+            dictionary: policy.dictionary(),
+            redaction,
+        },
+        only: None,
         layout: Layout::Plain,
     }
 }
@@ -84,6 +90,10 @@ fn records_are_compared(rt: HostRuntime) -> Result<(), Fail> {
     assert!(&rt;
         matches!(summary.lines.as_slice(), [count] if count.records == 1
             && PolicyLine::New(1).equals(count.line))
+    );
+    assert!(&rt;
+        matches!(summary.differences.as_slice(), [count] if count.records == 1
+            && count.names.as_slice() == b"four\n".as_slice())
     );
     Ok(())
 }

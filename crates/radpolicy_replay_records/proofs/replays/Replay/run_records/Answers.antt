@@ -1,14 +1,22 @@
 use Rattle.std.proofs.Common.{◌≡◌, ◌+◌, sym, subst}
 use Rattle.std.specs.Io.KnownBytes.{Appends}
 use Rattle.std.proofs.lemmas.Result.{err_from_is_err_and}
-use Rattle.radpolicy_replay_records.specs.Replays.{AppendsFront, entry_counted, entry_lines, entry_text, entry_verdict}
+use Rattle.radpolicy_replay_records.specs.Headings.{name_of}
+use Rattle.radpolicy_replay_records.specs.Replays.{AppendsFront, entry_counted, entry_difference, entry_lines, entry_text, entry_verdict}
 use Rattle.radpolicy_record_answers.specs.TextEntries.{IsEntryOf}
 use Rattle.radpolicy_replay_records.specs.TextReplays.{Gives, lines_secret, text_secret}
 use Rattle.radpolicy_replay_records.specs.internal.Positions.{CountsWithin}
 use Rattle.radpolicy_replay_records.specs.internal.Running.{AreOf}
-use Rattle.radpolicy_replay_records.proofs.Progress.{counted_within}
+use Rattle.radpolicy_replay_records.proofs.Progress.{record_within}
 use Rattle.radpolicy_replay_records.proofs.Telling.{broken_front, entry_reason, told_front, told_further}
 use Rattle.radpolicy_replay_records.proofs.replays.Replay.run_records.Goals as goal
+
+pub returns-in_err-entry-clause-front : goal.returns-in_err-entry-clause-front
+returns-in_err-entry-clause-front g c =
+    let p = err_from_is_err_and c.from_residual-in_err-entry.result c.from_residual-in_err-entry.ensures.1 in
+    rw p.1 (told_front c.args.self.now c.args.zone c.loop.summary
+    (g.R.Records.remaining c.args.records.now) (g.R.Records.remaining c.loop.records)
+    (g.W.Write.contents c.args.out.now) (g.W.Write.contents c.loop.out) c.loop.invariant.so_far)
 
 pub returns-in_err-summary-clause-front : goal.returns-in_err-summary-clause-front
 returns-in_err-summary-clause-front g c =
@@ -62,8 +70,10 @@ loop-preserved g c =
     rw (c.or_missing-read_by.ensures, c.of_text-secret.ensures) at c.in_ok-summary.ensures.summary in
     record {
       runners = subst (AreOf c.args.self.now) (sym c.tell_entry.ensures.kept) c.loop.invariant.runners;
-      within = subst CountsWithin (sym counts) (counted_within c.loop.summary (entry_verdict c.args.self.now (lines_secret c.args.self.now.shared c.in-Some.record) c.in_ok-entry.entry)
-          (entry_lines c.args.self.now (lines_secret c.args.self.now.shared c.in-Some.record) c.in_ok-entry.entry) c.loop.invariant.within);
+      within = subst CountsWithin (sym counts) (record_within c.loop.summary (entry_verdict c.args.self.now (lines_secret c.args.self.now.shared c.in-Some.record) c.in_ok-entry.entry)
+          (entry_lines c.args.self.now (lines_secret c.args.self.now.shared c.in-Some.record) c.in_ok-entry.entry)
+          (name_of (c.loop.summary.read + 1) c.in_ok-entry.entry)
+          (entry_difference c.args.self.now (lines_secret c.args.self.now.shared c.in-Some.record) c.in_ok-entry.entry) c.loop.invariant.within);
       so_far = told_further c.args.self.now c.args.zone c.loop.summary c.in_ok-summary.summary c.in-Some.record c.in_ok-entry.entry
           (g.R.Records.remaining c.args.records.now) (g.R.Records.remaining c.loop.records) (g.R.Records.remaining c.next_record.new.self)
           (g.W.Write.contents c.args.out.now) (g.W.Write.contents c.loop.out) (g.W.Write.contents c.tell_entry.new.out) (g.W.Write.contents c.flush.new.out)

@@ -10,6 +10,10 @@ pub returns-in-Code-clause-held : goal.returns-in-Code-clause-held
 returns-in-Code-clause-held c = λ line is.
     let records = c.args.self.now.records.items in c.set_code.ensures.held line records (are_from_self line records)
 
+pub returns-in-Answered-clause-held : goal.returns-in-Answered-clause-held
+returns-in-Answered-clause-held c = λ line is.
+    let records = c.args.self.now.records.items in c.set_reply_code.ensures.held line records (are_from_self line records)
+
 pub returns-in-Source-clause-held : goal.returns-in-Source-clause-held
 returns-in-Source-clause-held c = λ line is.
     let records = c.args.self.now.records.items in c.set_source.ensures.held line records (are_from_self line records)
