@@ -166,13 +166,13 @@ def check_warnings(subject: Subject, report: Report) -> None:
 
 
 FAULTS: Dict[str, Tuple[bytes, bytes]] = {
-    "a word": (b"# c\nreply:Class\n", b"radpolicy-import: first:2: not a pair of an initial list"),
-    "the request": (b"User-Name = 'bob'\n", b"radpolicy-import: first:1: not a pair of an initial list"),
-    "a section": (b"\n\nserver {\n}\n", b"radpolicy-import: first:3: not a pair of an initial list"),
-    "no attribute": (b"reply:No-Name = 1\n", b"radpolicy-import: first:1: an attribute that no dictionary has"),
-    "no value": (b"reply:Framed-IP-Address = x\n", b"radpolicy-import: first:1: "),
-    "a brace": (b"reply:Framed-Pool = 'a'\n}\n", b"radpolicy-import: first:2: closing brace without a section"),
-    "a quote": (b"reply:Framed-Pool = 'a\n", b"radpolicy-import: first:1: quote without its end"),
+    "a word": (b"# c\nreply:Class\n", b"radpolicy-import: first:2: E02 not a pair of an initial list"),
+    "the request": (b"User-Name = 'bob'\n", b"radpolicy-import: first:1: E02 not a pair of an initial list"),
+    "a section": (b"\n\nserver {\n}\n", b"radpolicy-import: first:3: E02 not a pair of an initial list"),
+    "no attribute": (b"reply:No-Name = 1\n", b"radpolicy-import: first:1: E02 an attribute that no dictionary has"),
+    "no value": (b"reply:Framed-IP-Address = x\n", b"radpolicy-import: first:1: E02 "),
+    "a brace": (b"reply:Framed-Pool = 'a'\n}\n", b"radpolicy-import: first:2: E02 closing brace without a section"),
+    "a quote": (b"reply:Framed-Pool = 'a\n", b"radpolicy-import: first:1: E02 quote without its end"),
 }
 
 
@@ -193,14 +193,14 @@ UNREAD = {
     "raddb/radiusd.conf": b"a = b\n",
     "other": b"\n$INCLUDE none\n",
 }
-FORBIDDEN = b"no permission to read it: run this with sudo, or as a member of the group that owns it"
+FORBIDDEN = b"E02 no permission to read it: run this with sudo, or as a member of the group that owns it"
 # What may not be read, what is imported, and the fault.
 UNREADABLE: Dict[str, Tuple[str, str, bytes]] = {
     "a file": ("main", "main", b"main: " + FORBIDDEN),
     "a server's file": ("raddb/radiusd.conf", "raddb", b"raddb/radiusd.conf: " + FORBIDDEN),
     "a file that is included": ("part/a", "main", b"main:1: part/a: " + FORBIDDEN),
     "a folder that is included": ("part", "main", b"main:2: part/: " + FORBIDDEN),
-    "a file that is missing": ("part", "other", b"other:2: none: not there, or not readable"),
+    "a file that is missing": ("part", "other", b"other:2: none: E02 not there, or not readable"),
 }
 
 

@@ -46,13 +46,13 @@ pub fn refuse_unread(rt: &HostRuntime, program: &str, unread: Unread<'_>) -> u8
     }
 }
 
-/// Prints a line that says of a file, in which attribute lines or packets were to be, that it is of another kind, and
-/// gives the status. The path has no control characters.
+/// Prints the line E02 of a file in which attribute lines or packets were to be, and which is of another kind, and gives
+/// the status. The path has no control characters.
 pub fn refuse_kind(rt: &HostRuntime, program: &str, path: &str, kind: FileKind) -> u8
     ensures { result ≡ status_of OptionValue }
 {
     let advice = kind.advice();
-    let _ = eprint!(rt; "{program}: ");
+    let _ = eprint!(rt; "{program}: E02 ");
     if let Ok(shown) = visible_text(rt.alloc(), path.as_bytes(), LineBreaks::Escaped) {
         let _ = rt.stderr().write_all(&shown);
     }

@@ -6,6 +6,7 @@ ghost use Rattle.radpolicy_common.specs.declared.terminals.LineBreaks.TheVariant
 
 use crate::nearest::nearest_of;
 use crate::texts::{push_all, push_choices};
+use avp_dict::next_line;
 use radpolicy::{Fault, help_text, option_text};
 use radpolicy_common::{LineBreaks, visible_text};
 use std::alloc::{AllocError, Global};
@@ -110,6 +111,11 @@ pub fn explain_words(alloc: Global, fault: &Fault, words: &[String]) -> Result<V
     visible_text(alloc, &help, LineBreaks::Kept)
 }
 
+// Whether a line advises to write an option as a file's name, which nobody means.
+fn is_no_advice(line: &[u8]) -> bool {
+    line.trim_ascii().starts_with(b"tip: to pass")
+}
+
 /// What is said of the words of a command line that were refused for this, and how a program of this name is asked for
 /// its options.
 pub(crate) fn explain_options(
@@ -119,9 +125,18 @@ pub(crate) fn explain_options(
     said: &str,
 ) -> Result<Vec<u8>, AllocError> {
     let mut help = Vec::new(alloc);
-    if matches!(fault, Fault::Usage | Fault::OptionValue) {
-        push_all(&mut help, &[said, program, " --help lists its options\n"])?;
+    if !matches!(fault, Fault::Usage | Fault::OptionValue) {
+        return Ok(help);
     }
+    let mut rest = said.as_bytes();
+    while let Some((line, after)) = next_line(rest) {
+        if !is_no_advice(line) {
+            help.extend_from_slice(line)?;
+            help.push(b'\n')?;
+        }
+        rest = after;
+    }
+    push_all(&mut help, &[program, " --help lists its options\n"])?;
     visible_text(alloc, &help, LineBreaks::Kept)
 }
 
@@ -140,6 +155,9 @@ pub(crate) fn explain_options_shortly(
         let line = line.trim_ascii();
         if line.starts_with(b"Usage:") {
             break;
+        }
+        if is_no_advice(line) {
+            continue;
         }
         let sentence = line.strip_prefix(b"error: ").unwrap_or(line);
         help.extend_from_slice(sentence.strip_suffix(b":").unwrap_or(sentence))?;

@@ -1,4 +1,5 @@
-//! Conditions that a server groups otherwise. A tree has no parentheses, so they are looked for in the text.
+//! Conditions that a server groups otherwise, or refuses. A tree has neither parentheses nor quotes, so they are looked
+//! for in the text.
 
 use crate::policy_tokens::{Token, tokens};
 use policy_warnings::{Joint, regroups};
@@ -37,6 +38,31 @@ impl Levels {
         }
         Ok(false)
     }
+}
+
+// Whether a token is a sign by which a condition compares.
+fn is_comparison(sign: &str) -> bool {
+    matches!(sign, "==" | "!=" | "<" | "<=" | ">" | ">=")
+}
+
+/// Where a text without quotes begins that a condition compares, and that a server takes for a regular expression: how
+/// many octets of the policy's text are before it.
+pub(crate) fn slashed(alloc: Global, text: &[u8]) -> Result<Vec<usize>, AllocError> {
+    let mut found = Vec::new(alloc);
+    let mut is_compared = false;
+    let mut open: usize = 0;
+    for token in &tokens(alloc, text)? {
+        if is_compared && token.octets.starts_with(b"/") {
+            found.push(token.offset)?;
+        }
+        match token.text() {
+            "(" => open = open.saturating_add(1),
+            ")" => open = open.saturating_sub(1),
+            _ => {}
+        }
+        is_compared = open > 0 && is_comparison(token.text());
+    }
+    Ok(found)
 }
 
 /// Where the `if` or `elsif` is of each condition that a server groups otherwise: how many octets of the policy's text

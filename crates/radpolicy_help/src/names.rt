@@ -10,7 +10,7 @@ use crate::policy_tokens::text_of;
 use crate::sources::Sources;
 use crate::texts::{push_all, push_choices};
 use crate::unread_secrets::UnreadSecrets;
-use avp_dict::{Dictionary, FileSet, next_line, words_between_blanks};
+use avp_dict::{Dictionary, FileSet, last_component, next_line, words_between_blanks};
 use radpolicy_common::{LineBreaks, visible_text};
 use std::alloc::{AllocError, Global};
 
@@ -95,17 +95,81 @@ fn path_with_attribute<'a>(
     Ok(None)
 }
 
-// Adds the names that may have been meant.
-fn push_nearest_attributes(help: &mut Vec<u8>, names: &[&str]) -> Result<(), AllocError> {
+// The dictionary file that includes the others.
+fn main_file<'a>(dictionaries: &[&'a str]) -> &'a str {
+    match dictionaries {
+        [main, ..] => main,
+        [] => "the main one",
+    }
+}
+
+/// Adds how a line comes into the dictionary that only a server has, of these words.
+pub(crate) fn push_own_line(
+    help: &mut Vec<u8>,
+    sources: &Sources<'_>,
+    words: &[&str],
+) -> Result<(), AllocError> {
+    push_all(help, &["write "])?;
+    push_all(help, words)?;
+    push_all(
+        help,
+        &[
+            " into a dictionary file of your own, give that too, and write $INCLUDE and its name into ",
+            main_file(sources.dictionaries),
+            "\n",
+        ],
+    )
+}
+
+// Adds the names that may have been meant, or where the name may come from.
+fn push_nearest_attributes(
+    help: &mut Vec<u8>,
+    names: &[&str],
+    main: &str,
+) -> Result<(), AllocError> {
     if names.is_empty() {
         return push_all(
             help,
-            &["give the dictionary file that has its ATTRIBUTE line, and include it\n"],
+            &[
+                "give the dictionary file that has its ATTRIBUTE line too, and write $INCLUDE and its \
+                name into ",
+                main,
+                "\n",
+            ],
         );
     }
     push_all(help, &["write "])?;
     push_choices(help, names)?;
     push_all(help, &["\n"])
+}
+
+// Adds what to do about a name whose ATTRIBUTE line is in a file.
+fn push_unread_line(
+    help: &mut Vec<u8>,
+    dictionaries: &[&str],
+    path: &str,
+) -> Result<(), AllocError> {
+    let main = main_file(dictionaries);
+    if main == path {
+        return push_all(
+            help,
+            &[path, " has its ATTRIBUTE line, whose type is not read\n"],
+        );
+    }
+    push_all(
+        help,
+        &[
+            path,
+            " has its ATTRIBUTE line: no file includes that one, or the line's type is not read\n\
+            write $INCLUDE ",
+            text_of(last_component(path.as_bytes())),
+            " into ",
+            main,
+            ", or give a main file first that includes it, as ",
+            folder_of(path),
+            "dictionary\n",
+        ],
+    )
 }
 
 /// Adds what to do about a name that is no attribute's.
@@ -116,20 +180,12 @@ pub(crate) fn push_unknown_attribute(
     name: &str,
 ) -> Result<(), AllocError> {
     if let Some(path) = path_with_attribute(alloc, sources, name)? {
-        return push_all(
-            help,
-            &[
-                path,
-                " has its ATTRIBUTE line: no file includes that one, or the line's type is not read\n\
-                give the main file first, as ",
-                folder_of(path),
-                "dictionary\n",
-            ],
-        );
+        return push_unread_line(help, sources.dictionaries, path);
     }
     match &sources.dictionary(alloc) {
         Some(dictionary) => {
-            push_nearest_attributes(help, &nearest_attributes(alloc, dictionary, name)?)
+            let names = nearest_attributes(alloc, dictionary, name)?;
+            push_nearest_attributes(help, &names, main_file(sources.dictionaries))
         }
         None => Ok(()),
     }
@@ -145,7 +201,8 @@ pub fn explain_name(
 {
     let mut help = Vec::new(alloc);
     push_all(&mut help, &["no attribute has the name ", name, "\n"])?;
-    push_nearest_attributes(&mut help, &nearest_attributes(alloc, dictionary, name)?)?;
+    let names = nearest_attributes(alloc, dictionary, name)?;
+    push_nearest_attributes(&mut help, &names, main_file(&[]))?;
     visible_text(alloc, &help, LineBreaks::Kept)
 }
 

@@ -8,13 +8,14 @@ use crate::halves::HIDDEN;
 use crate::nearest::nearest_of;
 use crate::patterns::{fault_place, push_pattern_fault, unread_pattern_hint};
 use crate::places::{Quoted, last_line, push_place};
-use crate::policy_tokens::{is_match, is_update_operator};
+use crate::policy_tokens::{is_match, is_update_operator, is_word_octet, text_of};
+use crate::runs::Run;
 use crate::secret_words::hidden_of;
 use crate::sources::Sources;
 use crate::texts::{push_all, push_choices, push_number};
 use crate::unknown_names::{misspelt_at, name_in, push_unknown};
 use crate::unread_secrets::UnreadSecrets;
-use crate::values::push_not_value;
+use crate::values::{push_not_value, push_word_after};
 use avp_dict::line_after;
 use avp_forms::{Profile, profile_of};
 use avp_unlang::{PolicyFault, PolicyKind};
@@ -360,8 +361,8 @@ fn unreadable_hint(found: &str) -> &'static str {
         "an expansion may be in double quotes only: \"%{Name}\""
     } else if found.starts_with("\\") {
         "lines that go on are left out here: write the line in one piece"
-    } else if found.starts_with(",") {
-        "lines end without a comma: take it out"
+    } else if found.starts_with(",") || found.starts_with(";") {
+        "lines end without a comma or semicolon: take it out"
     } else if found.starts_with("~") {
         "regular expressions belong into if ( .. ), below # profile: wider in the first line"
     } else if found.starts_with("*") {
@@ -511,10 +512,48 @@ fn push_other_type(help: &mut Vec<u8>, name: &str, found: &str) -> Result<(), Al
     )
 }
 
+// Whether a word follows a closing quote at once, as in `'it's late'`.
+fn is_behind_quote(front: &[u8], found: &Found<'_>) -> bool {
+    matches!(front, [.., b'"' | b'\''])
+        && matches!(found.back, [first, ..] if is_word_octet(*first))
+}
+
+// What is said of a word that follows a closing quote at once.
+fn push_behind_quote(help: &mut Vec<u8>, found: &Found<'_>) -> Result<(), AllocError> {
+    push_all(
+        help,
+        &[
+            "found ",
+            found.shown,
+            " behind a closing quote\nput a text with a ' between two \", and one with a \" between two '\n",
+        ],
+    )
+}
+
 // Whether a place after this text is one after the value of an update line, on the same line.
 fn is_after_value(context: &Context<'_>, front: &[u8]) -> bool {
     let line = last_line(front).trim_ascii();
     context.expected == Expected::Line && !line.is_empty() && !line.ends_with(b"{")
+}
+
+// The word at the end of a text, as it is shown.
+fn last_word<'a>(quoted: Quoted<'a>, front: &'a [u8]) -> &'a str {
+    let front = front.trim_ascii_end();
+    let offset = Run::PolicyWord.before(front).len();
+    let word = text_of(front.get(offset..).unwrap_or(&[]));
+    quoted.hidden.shown(quoted.source.text, offset, word)
+}
+
+// What is said of a word that follows the value of an update line.
+fn push_after_value(
+    help: &mut Vec<u8>,
+    sources: &Sources<'_>,
+    context: &Context<'_>,
+    value: &str,
+    word: &str,
+) -> Result<(), AllocError> {
+    push_all(help, &["found ", word, " after a value\n"])?;
+    push_word_after(help, sources, name_in(context.name), [value, word])
 }
 
 /// What is said of a policy's fault.
@@ -541,12 +580,16 @@ pub(crate) fn policy_help(
         _ => 0,
     });
     push_place(alloc, &mut help, quoted, place)?;
-    if fault.kind == PolicyKind::Unknown
+    if matches!(fault.kind, PolicyKind::Unknown | PolicyKind::Misplaced)
+        && is_behind_quote(front, &found)
+    {
+        push_behind_quote(&mut help, &found)?;
+    } else if fault.kind == PolicyKind::Unknown
         && is_after_value(&context, front)
         && !is_update_operator(found.next)
     {
-        push_all(&mut help, &["found ", found.shown, " after a value\n"])?;
-        push_all(&mut help, &["put a text with blanks into quotes\n"])?;
+        let value = last_word(quoted, front);
+        push_after_value(&mut help, sources, &context, value, found.shown)?;
     } else {
         push_sentences(
             alloc, &mut help, fault.kind, &context, sources, quoted, &found,

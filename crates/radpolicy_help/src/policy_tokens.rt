@@ -14,7 +14,8 @@ fn is_blank(octet: u8) -> bool {
     matches!(octet, b' ' | b'\t' | b'\r' | b'\n')
 }
 
-fn is_word_octet(octet: u8) -> bool {
+/// Whether a word may have this octet.
+pub(crate) fn is_word_octet(octet: u8) -> bool {
     octet.is_ascii_alphanumeric() || matches!(octet, b'-' | b'_' | b'.' | b'/' | b':' | b'@')
 }
 

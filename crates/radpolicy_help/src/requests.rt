@@ -13,12 +13,34 @@ use crate::unread_secrets::UnreadSecrets;
 use crate::values::{push_not_value, tag_hint};
 use crate::written_pairs::{WrittenPair, pair_around};
 use avp_dict::{LineFault, LineKind};
+use radpolicy_common::file_kind;
 use std::alloc::{AllocError, Global};
 
-// Whether a line that begins so is one of a `detail` file or a log: their attributes are on lines that begin with a
-// tab.
-fn is_of_log(text: &[u8], rest: &str) -> bool {
+// Whether a line that begins so is one of a `detail` file: its attributes are on lines that begin with a tab.
+fn is_of_detail(text: &[u8], rest: &str) -> bool {
     !rest.contains("=") && text.windows(2).any(|two| two == b"\n\t".as_slice())
+}
+
+// Whether a line is one of a server's log, most of which begin with the number of a request between brackets.
+fn is_of_log(rest: &str) -> bool {
+    match rest.as_bytes() {
+        [b'(', b'0'..=b'9', ..] => true,
+        _ => rest.starts_with("FreeRADIUS Version"),
+    }
+}
+
+// What to do about a file that has no request's lines, where it is told by its beginning or by this line.
+fn other_kind(text: &[u8], rest: &str) -> Option<&'static str> {
+    if let Some(kind) = file_kind(text) {
+        Some(kind.advice())
+    } else if is_of_log(rest) || is_of_detail(text, rest) {
+        Some(
+            "a detail file or a server's log is read by radpolicy-replay, and by radpolicy-walk and \
+            radpolicy-page with --record",
+        )
+    } else {
+        None
+    }
 }
 
 // What to do about a line that is none, by what is at the place.
@@ -75,15 +97,12 @@ fn push_sentences(
     pair: ShownPair<'_>,
 ) -> Result<(), AllocError> {
     let ShownPair { name, value, rest } = pair;
+    if matches!(kind, LineKind::Unknown | LineKind::Unreadable)
+        && let Some(advice) = other_kind(sources.request.text, rest)
+    {
+        return push_all(help, &[advice, "\n"]);
+    }
     match kind {
-        LineKind::Unknown if is_of_log(sources.request.text, rest) => push_all(
-            help,
-            &[
-                "no attribute has the name ",
-                name,
-                "\na detail file or a log is read by radpolicy-walk --record and radpolicy-replay\n",
-            ],
-        ),
         LineKind::Unknown => push_unknown(alloc, help, sources, name),
         LineKind::NotValue if name == HIDDEN => {
             push_all(help, &["found ", value, ", which is no value here\n"])

@@ -3,7 +3,7 @@
 use crate::captures::{group_hint, is_group, is_number, next_expansion};
 use crate::contexts::{Context, Expected, is_code};
 use crate::found::Found;
-use crate::names::{is_near_secret, push_unknown_attribute};
+use crate::names::{is_near_secret, push_own_line, push_unknown_attribute};
 use crate::nearest::nearest_of;
 use crate::policy_tokens::{text_of, token_of};
 use crate::sources::Sources;
@@ -103,6 +103,12 @@ fn push_unknown_hint(
             &["of the server's lists there are request, reply and control\n"],
         );
     }
+    if let Some((list, attribute)) = list_and_dot(name) {
+        return push_all(
+            help,
+            &["a colon follows a list: write ", list, ":", attribute, "\n"],
+        );
+    }
     if context.expected == Expected::Operand && push_operand_hint(alloc, help, name)? {
         return Ok(());
     }
@@ -112,16 +118,20 @@ fn push_unknown_hint(
         }
     }
     if is_of_module(name) {
-        return push_all(
-            help,
-            &[
-                "a module of the server defines it: give a dictionary of your own with ATTRIBUTE ",
-                name,
-                " 3000 string\n",
-            ],
-        );
+        push_all(help, &["a module of the server defines it: "])?;
+        return push_own_line(help, sources, &["ATTRIBUTE ", name, " 3000 string"]);
     }
     push_unknown_attribute(alloc, help, sources, name)
+}
+
+// A list, and the attribute that follows it behind a dot.
+fn list_and_dot(name: &str) -> Option<(&str, &str)> {
+    match name.split_once(".") {
+        Some((list, attribute)) if matches!(list, "request" | "reply" | "control") => Some((
+            list, attribute,
+        )),
+        _ => None,
+    }
 }
 
 // Whether it is one of a server's codes that the profile leaves out.

@@ -1,10 +1,10 @@
 //! What is said of a value that is none.
 
-use crate::names::{shown_values, value_names};
+use crate::names::{push_own_line, shown_values, value_names};
 use crate::sources::Sources;
 use crate::texts::{push_all, push_choices};
 use avp_dict::{Dictionary, Form, Kind};
-use avp_forms::Profile;
+use avp_forms::{Profile, profile_of};
 use std::alloc::{AllocError, Global};
 
 // Which texts a type reads.
@@ -132,6 +132,61 @@ fn push_values(
     Ok(())
 }
 
+// The letter that stands for a unit of time.
+fn letter_of_unit(word: &str) -> Option<&str> {
+    match word {
+        "s" | "sec" | "second" | "seconds" => Some("s"),
+        "m" | "min" | "minute" | "minutes" => Some("m"),
+        "h" | "hour" | "hours" => Some("h"),
+        "d" | "day" | "days" => Some("d"),
+        _ => None,
+    }
+}
+
+// Adds what a value of this type is, behind which a word stands.
+fn push_one_word(
+    help: &mut Vec<u8>,
+    profile: Profile,
+    kind: Kind,
+    form: Form,
+    written: [&str; 2],
+) -> Result<(), AllocError> {
+    let alloc = *help.allocator();
+    let [value, word] = written;
+    push_form(help, profile, kind, form)?;
+    match letter_of_unit(word) {
+        Some(unit) => {
+            let time = format!(in alloc; "{value}{unit}")?;
+            push_seconds(alloc, help, kind, time.as_str())
+        }
+        None => Ok(()),
+    }
+}
+
+/// Adds what to do about a value of this attribute and the word behind it: a text takes quotes, and a value of another
+/// type is one word.
+pub(crate) fn push_word_after(
+    help: &mut Vec<u8>,
+    sources: &Sources<'_>,
+    name: &str,
+    written: [&str; 2],
+) -> Result<(), AllocError> {
+    let profile = profile_of(sources.policy.text);
+    let typing = match &sources.dictionary(*help.allocator()) {
+        Some(dictionary) => typing_of(dictionary, name),
+        None => None,
+    };
+    match typing {
+        None | Some((Kind::Text, _)) | Some((_, Form::TaggedString)) => {
+            push_all(help, &["put a text with blanks into quotes\n"])
+        }
+        Some((kind, form)) => {
+            push_all(help, &["a value of ", name, " is "])?;
+            push_one_word(help, profile, kind, form, written)
+        }
+    }
+}
+
 // The type of an attribute, and what its values stand for.
 fn typing_of(dictionary: &Dictionary, name: &str) -> Option<(Kind, Form)> {
     let named = dictionary.by_name(name.as_bytes())?;
@@ -173,14 +228,8 @@ pub(crate) fn push_not_value(
         None => push_all(help, &["of another form\n"])?,
     }
     if name == "Auth-Type" {
-        push_all(
-            help,
-            &[
-                "a module of the server may define it: give a dictionary of your own with VALUE Auth-Type ",
-                value,
-                " 3000\n",
-            ],
-        )?;
+        push_all(help, &["a module of the server may define it: "])?;
+        push_own_line(help, sources, &["VALUE Auth-Type ", value, " 3000"])?;
         return push_values(alloc, help, sources, name, value, "or write ");
     }
     push_values(alloc, help, sources, name, value, "write ")

@@ -5,7 +5,7 @@ ghost use Rattle.radpolicy_common.specs.VisibleText.{all_visible};
 ghost use Rattle.radpolicy_common.specs.declared.terminals.LineBreaks.TheVariants.{Kept};
 
 use crate::allowances::{Allowance, allowances, unread_profile};
-use crate::groupings::regrouped;
+use crate::groupings::{regrouped, slashed};
 use crate::sources::Sources;
 use crate::texts::{push_all, push_number};
 use crate::watching::Watcher;
@@ -52,6 +52,13 @@ const GROUPING: Advice = Advice {
     found: "a || after an && without parentheses",
     server: "a server groups to the right, as a && (b || c), and here && binds closer, as (a && b) || c",
     hint: "write parentheses round what belongs together",
+};
+
+const SLASHED_TEXT: Advice = Advice {
+    name: "slashed-text",
+    found: "a text without quotes that begins with a slash",
+    server: "a server takes it for a regular expression, and refuses the policy; here it is a text",
+    hint: "write =~ to search for a regular expression, or put the text into quotes",
 };
 
 const EMPTY_UPDATE: Advice = Advice {
@@ -205,12 +212,17 @@ fn add_warned(found: &mut Vec<Finding>, warnings: &[Warning]) -> Result<(), Allo
     Ok(())
 }
 
-// The findings of conditions that a server groups otherwise.
-fn add_regrouped(alloc: Global, found: &mut Vec<Finding>, text: &[u8]) -> Result<(), AllocError> {
-    for offset in &regrouped(alloc, text)? {
+// The findings at these places of a policy's text.
+fn add_places(
+    found: &mut Vec<Finding>,
+    text: &[u8],
+    offsets: &[usize],
+    advice: Advice,
+) -> Result<(), AllocError> {
+    for offset in offsets {
         found.push(Finding {
             line: line_after(text.get(..*offset).unwrap_or(text)),
-            advice: GROUPING,
+            advice,
         })?;
     }
     Ok(())
@@ -234,7 +246,8 @@ fn all_findings(
         &mut found,
         &answered_warnings(alloc, dictionary, statements)?,
     )?;
-    add_regrouped(alloc, &mut found, text)?;
+    add_places(&mut found, text, &regrouped(alloc, text)?, GROUPING)?;
+    add_places(&mut found, text, &slashed(alloc, text)?, SLASHED_TEXT)?;
     Watcher::new(alloc, dictionary)?.add_block(&mut found, statements)?;
     found.sort_by_key(|finding| finding.line)?;
     Ok(found)

@@ -15,8 +15,8 @@ ghost use Rattle.radpolicy.specs.Faults.{IsPrintedAnywhere, IsPrintedWith};
 use crate::command_line::{Plan, help_text, read_words};
 use crate::outputs::write_made;
 use crate::reports::{
-    OthersReport, refuse_value, show_fault, show_initial_fault, show_initial_line, show_others,
-    show_report,
+    OthersReport, REFUSED, refuse_value, show_fault, show_initial_fault, show_initial_line,
+    show_others, show_report,
 };
 use crate::sections::lack_text;
 use crate::sources::{
@@ -97,7 +97,7 @@ fn refuse_statements(rt: &HostRuntime, fault: ImportFault) -> Result<u8, Fault>
         | ImportFault::LineFeed
         | ImportFault::Lost
         | ImportFault::Initial(..) => {
-            let _ = eprintln!(rt; "radpolicy-import: {fault}");
+            let _ = eprintln!(rt; "radpolicy-import: {REFUSED}{fault}");
             Ok(status(&Fault::OptionValue))
         }
     }

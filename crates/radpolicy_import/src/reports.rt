@@ -221,6 +221,10 @@ pub fn show_others(
     Ok(())
 }
 
+/// The number of what is refused of a server's files, and of the lists that are given with them: that of a value of an
+/// option, which names them.
+pub const REFUSED: &str = "E02 ";
+
 // `FILE:LINE: ` of a fault; nothing where the first file is not read, or is the list of the files that were named.
 fn fault_place(alloc: Global, fault: &ConfigurationFault) -> Result<Vec<u8>, AllocError> {
     let path = fault.file.path.as_slice();
@@ -243,7 +247,7 @@ fn fault_text(alloc: Global, fault: &ConfigurationFault) -> Result<Vec<u8>, Allo
         text.extend_from_slice(b": ")?;
     }
     let kind = fault.kind;
-    text.extend_from_slice(format!(in alloc; "{kind}\n")?.as_bytes())?;
+    text.extend_from_slice(format!(in alloc; "{REFUSED}{kind}\n")?.as_bytes())?;
     Ok(text)
 }
 
@@ -252,7 +256,7 @@ pub fn show_fault(rt: &HostRuntime, fault: &ConfigurationFault) {
     let kind = fault.kind;
     let _ = match fault_text(rt.alloc(), fault) {
         Ok(text) => rt.stderr().write_all(&text),
-        Err(_) => eprintln!(rt; "radpolicy-import: {kind}"),
+        Err(_) => eprintln!(rt; "radpolicy-import: {REFUSED}{kind}"),
     };
 }
 
@@ -270,14 +274,14 @@ fn tell(rt: &HostRuntime, before: &str, text: &str, behind: &str) {
 /// Writes where and why the file of initial lists is not read.
 pub fn show_initial_fault(rt: &HostRuntime, path: &str, fault: &server_configuration::Fault) {
     let (line, kind) = (fault.line, fault.kind);
-    if let Ok(behind) = format!(in rt.alloc(); ":{line}: {kind}\n") {
+    if let Ok(behind) = format!(in rt.alloc(); ":{line}: {REFUSED}{kind}\n") {
         tell(rt, "radpolicy-import: ", path, behind.as_str());
     }
 }
 
 /// Writes which line of the file of initial lists is no pair of one, and why.
 pub fn show_initial_line(rt: &HostRuntime, path: &str, line: usize, reason: Reason) {
-    if let Ok(behind) = format!(in rt.alloc(); ":{line}: {reason}\n") {
+    if let Ok(behind) = format!(in rt.alloc(); ":{line}: {REFUSED}{reason}\n") {
         tell(rt, "radpolicy-import: ", path, behind.as_str());
     }
 }

@@ -75,12 +75,17 @@ fn push_line(out: &mut Vec<u8>, note: &Note<'_>, text: &[u8]) -> Result<(), Allo
     push(out, "]\n")
 }
 
-// The line of a note that has no other: of a fault it says what the help does, if there is any.
+// The line of a note that has no other. What the help says comes in place of a fault's words, and behind a warning's.
 fn push_line_alone(out: &mut Vec<u8>, note: &Note<'_>) -> Result<(), AllocError> {
-    let said = sentences(*out.allocator(), note.help)?;
-    match said.strip_prefix(b": ") {
-        Some(said) if note.level == Level::Error => push_line(out, note, said),
-        _ => push_line(out, note, note.text.as_bytes()),
+    let alloc = *out.allocator();
+    let said = sentences(alloc, note.help)?;
+    match (note.level, said.strip_prefix(b": ")) {
+        (Level::Error, Some(said)) => push_line(out, note, said),
+        _ => {
+            let mut text = Vec::from_slice(alloc, note.text.as_bytes())?;
+            text.extend_from_slice(&said)?;
+            push_line(out, note, &text)
+        }
     }
 }
 

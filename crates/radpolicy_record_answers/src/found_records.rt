@@ -1,6 +1,7 @@
 //! The request of a record: of a log, of a file of requests, or of lines of packets. Records are called as
 //! `radpolicy-replay` calls them.
 
+use crate::log_servers::LogServers;
 use crate::records::{is_packet_word, line_identifier, push_name, source_of};
 use crate::text_entries::{text_identifier, text_source};
 use radpolicy::Form;
@@ -27,10 +28,45 @@ pub enum Search {
     Found(RecordedRequest),
     /// It is no request whose lines are all there.
     NoRequest,
-    /// There is none, among so many.
-    Missing(u64),
+    /// There is none. What records there are instead, in words.
+    Missing(Vec<u8>),
     /// They are lines of packets, and were not looked for.
     Packets,
+}
+
+// So many octets of names are told at most.
+const MOST_NAMED: usize = 100;
+
+/// Names as they are told: with commas between them, and two dots in place of those for which there is no room.
+#[derive(Drop)]
+pub(crate) struct NameList {
+    text: Vec<u8>,
+    is_full: bool,
+}
+
+impl NameList {
+    pub(crate) fn new(alloc: Global) -> NameList {
+        NameList {
+            text: Vec::new(alloc),
+            is_full: false,
+        }
+    }
+
+    pub(crate) fn add(&mut self, name: &[u8]) -> Result<(), AllocError> {
+        if self.is_full {
+            return Ok(());
+        }
+        if !self.text.is_empty() {
+            self.text.extend_from_slice(b", ")?;
+        }
+        self.is_full = name.len() > MOST_NAMED.saturating_sub(self.text.len());
+        self.text
+            .extend_from_slice(if self.is_full { b"..".as_slice() } else { name })
+    }
+
+    pub(crate) fn as_slice(&self) -> &[u8] {
+        self.text.as_slice()
+    }
 }
 
 // A name that is looked for, and how many records were looked at.
@@ -38,17 +74,23 @@ pub enum Search {
 struct Wanted<'a> {
     name: &'a [u8],
     read: u64,
+    // What those are called.
+    names: NameList,
 }
 
 impl<'a> Wanted<'a> {
     // The name as it is printed: the number of a server's log without its brackets.
-    fn new(name: &'a str) -> Wanted<'a> {
+    fn new(alloc: Global, name: &'a str) -> Wanted<'a> {
         let name = match name.as_bytes() {
             [b'(', digits @ .., b')'] if digits.iter().all(|octet| octet.is_ascii_digit()) =>
                 digits,
             whole => whole,
         };
-        Wanted { name, read: 0 }
+        Wanted {
+            name,
+            read: 0,
+            names: NameList::new(alloc),
+        }
     }
 
     // Whether the next record is looked for, which this identifier names, or else its number.
@@ -56,7 +98,26 @@ impl<'a> Wanted<'a> {
         self.read = self.read.saturating_add(1);
         let mut name = Vec::new(alloc);
         push_name(&mut name, self.read, identifier)?;
+        self.names.add(name.trim_ascii_end())?;
         Ok(name.trim_ascii_end() == self.name)
+    }
+
+    // Which records there are, none of which is looked for.
+    fn missing(&self, alloc: Global) -> Result<Search, AllocError> {
+        let read = self.read;
+        let mut said = Vec::from_slice(
+            alloc,
+            match read {
+                1 => format!(in alloc; "has 1 record")?,
+                _ => format!(in alloc; "has {read} records")?,
+            }
+            .as_bytes(),
+        )?;
+        if read > 0 {
+            said.extend_from_slice(b": ")?;
+            said.extend_from_slice(self.names.as_slice())?;
+        }
+        Ok(Search::Missing(said))
     }
 
     fn is_next_record(&mut self, alloc: Global, record: &Record) -> Result<bool, AllocError> {
@@ -207,10 +268,10 @@ fn request_of_line(alloc: Global, name: &str, line: &[u8]) -> Result<Search, All
 
 // The record of a name in lines of packets.
 fn find_line(alloc: Global, text: &[u8], name: &str) -> Result<Search, AllocError> {
-    let mut wanted = Wanted::new(name);
+    let mut wanted = Wanted::new(alloc, name);
     match line_in(alloc, text, &mut wanted)? {
         Some(line) => request_of_line(alloc, told_name(alloc, &wanted, None)?.as_str(), line),
-        None => Ok(Search::Missing(wanted.read)),
+        None => wanted.missing(alloc),
     }
 }
 
@@ -223,9 +284,9 @@ pub fn search_text(
     search: &Search,
 ) -> Result<Vec<u8>, AllocError> {
     let said = match search {
-        Search::Missing(1) => format!(in alloc; "there is no record {name}: {path} has 1 record\n"),
-        Search::Missing(read) => {
-            format!(in alloc; "there is no record {name}: {path} has {read} records\n")
+        Search::Missing(others) => {
+            let others = String::from_utf8_lossy(alloc, others)?;
+            format!(in alloc; "there is no record {name}: {path} {others}\n")
         }
         Search::Packets => {
             format!(in alloc; "{path} has lines of packets: write --hex and -S SECRET-FILE too\n")
@@ -265,6 +326,23 @@ fn reader_asked(
     }
 }
 
+// What a text has instead of a record. Where no request goes to the virtual server that is named, those that are.
+fn missing_from(
+    alloc: Global,
+    text: &[u8],
+    asked: AskedRecord<'_>,
+    wanted: &Wanted<'_>,
+) -> Result<Search, AllocError> {
+    match asked.server {
+        Some(server) if wanted.read == 0 => {
+            let mut said = Vec::from_slice(alloc, b"is a log, and ")?;
+            said.extend_from_slice(&LogServers::of_log(alloc, text)?.text(server)?)?;
+            Ok(Search::Missing(said))
+        }
+        _ => wanted.missing(alloc),
+    }
+}
+
 /// Looks for a record in a text: in lines of packets where that is the form, else in what a server or a tool printed.
 pub fn find_record(
     alloc: Global,
@@ -275,19 +353,19 @@ pub fn find_record(
         return find_line(alloc, text, asked.name);
     }
     let Some(format) = format_asked(text, asked) else {
-        return Ok(if has_packets(text) {
-            Search::Packets
+        return if has_packets(text) {
+            Ok(Search::Packets)
         } else {
-            Search::Missing(0)
-        });
+            Wanted::new(alloc, asked.name).missing(alloc)
+        };
     };
-    let mut wanted = Wanted::new(asked.name);
+    let mut wanted = Wanted::new(alloc, asked.name);
     let mut reader = reader_asked(alloc, format, asked)?;
     match record_in(alloc, text, &mut reader, &mut wanted)? {
         Some(record) => {
             let told = told_name(alloc, &wanted, Some(format))?;
             request_of_record(alloc, told.as_str(), record)
         }
-        None => Ok(Search::Missing(wanted.read)),
+        None => missing_from(alloc, text, asked, &wanted),
     }
 }

@@ -8,6 +8,7 @@ mod comparisons;
 mod differences;
 mod entries;
 mod found_records;
+mod log_servers;
 mod packet_lines;
 mod record_lines;
 mod records;
@@ -27,6 +28,7 @@ pub use comparisons::{Against, Comparison, Order, Told, compared, same_lists};
 pub use differences::{Printer, verdict_of_same};
 pub use entries::{Entry, answer_over, entry_answer, entry_of_line};
 pub use found_records::{AskedRecord, RecordedRequest, Search, find_record, search_text};
+pub use log_servers::LogServers;
 pub use record_lines::run_of;
 pub use records::{
     MAX_LINE_OCTETS, is_packet_word, line_identifier, push_name, request_octets, source_of,

@@ -324,6 +324,10 @@ fn lacks_replies(found: &ArgMatches<'_>) -> bool {
     found.get_flag(SHOW_REPLIES) && !is_captured
 }
 
+// What is said of `-f`, by which `radpolicy` takes a request.
+const NO_FILE: &str =
+    "there is no option -f: the requests are on standard input, as in radpolicy-replay .. < FILE\n";
+
 // What is wrong with words that are options and their values, if they are refused.
 fn refusal_of(found: &ArgMatches<'_>) -> &'static str {
     if found.get_flag(TO_HEX) && has_replay(found) {
@@ -361,6 +365,12 @@ pub fn read_words<'a, S: AsStr>(alloc: Global, words: &'a [S]) -> Result<Asked<'
 pub fn help_text<'a, S: AsStr>(alloc: Global, words: &'a [S]) -> Result<String, AllocError> {
     match program(alloc)?.try_get_matches_from(words) {
         Ok(found) => String::from_str(alloc, refusal_of(&found)),
-        Err(error) => error.to_string(alloc),
+        Err(error) => {
+            let said = error.to_string(alloc)?;
+            if said.contains("'-f' found") {
+                return String::from_str(alloc, NO_FILE);
+            }
+            Ok(said)
+        }
     }
 }

@@ -154,6 +154,11 @@ impl<'a, R: Records + Drop> CountedRecords<'a, R> {
     pub fn new(records: R, counter: Counter<'a>) -> CountedRecords<'a, R> {
         CountedRecords { records, counter }
     }
+
+    /// The records, as far as they were asked for.
+    pub fn records(&self) -> &R {
+        &self.records
+    }
 }
 
 impl<R: Records + Drop> Records for CountedRecords<'_, R> {

@@ -27,7 +27,7 @@ use crate::command_line::{Asked, Plan, SecretPlan, help_text, read_words};
 use crate::counted_lines::PolicyTexts;
 use crate::counters::{CountedLines, CountedRecords, Counter};
 use crate::expected::{DIFFERENT, expected_status, open_expected};
-use crate::places::{FileLine, refuse_in};
+use crate::places::{FileLine, refuse_in, shown};
 use crate::secrets::{HeldSecrets, held_secrets, read_secret};
 use crate::streams::{Early, flush, refuse_input, write_text};
 use crate::summaries::{Ended, show_summary};
@@ -41,8 +41,8 @@ use radpolicy_common::{
     read_dictionary_set, read_file, refuse_early, show_help,
 };
 use radpolicy_help::{Source, Sources, refuse_name, refuse_unread_explained, refuse_words_of};
-use radpolicy_record_answers::{Against, Comparison, Shown};
-use radpolicy_replay_records::{Layout, Records, Replay, ReplayFault, Summary};
+use radpolicy_record_answers::{Against, Comparison, LogServers, Shown};
+use radpolicy_replay_records::{Layout, RecordReader, Replay, ReplayFault, Summary};
 use std::alloc::{AllocError, Global};
 use std::fs::File;
 use std::io::{BufReader, BufWriter, Read, Write};
@@ -111,17 +111,33 @@ fn run_lines<R: Read + Drop, W: Write>(
     })
 }
 
+// Says which virtual servers a log names, where no record is of the one that was asked for.
+fn tell_servers(
+    rt: &HostRuntime,
+    plan: &Plan<'_>,
+    servers: Option<&LogServers>,
+) -> Result<(), AllocError> {
+    if let (Some(server), Some(servers)) = (plan.server, servers) {
+        let text = shown(rt.alloc(), &servers.text(server)?)?;
+        let _ = eprintln!(rt; "{PROGRAM}: {text}");
+    }
+    Ok(())
+}
+
 // The replay of records of attribute lines.
-fn run_records<R: Records + Drop, W: Write>(
+fn run_records<R: Read + Drop, W: Write>(
     rt: &HostRuntime,
     plan: &Plan<'_>,
     replay: &Replay<'_>,
-    mut records: CountedRecords<'_, R>,
+    mut records: CountedRecords<'_, RecordReader<R>>,
     out: &mut W,
 ) -> Result<Ended, ReplayFault> {
     let ended = replay.run_records(rt.alloc(), plan.zone, &mut records, out);
     records.counter.clear();
     let summary = ended?;
+    if summary.read == 0 {
+        tell_servers(rt, plan, records.records().servers())?;
+    }
     Ok(Ended {
         rate: records.counter.rate(summary.read),
         summary,

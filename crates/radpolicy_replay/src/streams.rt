@@ -2,9 +2,10 @@
 
 use crate::PROGRAM;
 use radpolicy::Fault;
-use radpolicy_common::{FileKind, Unread, refuse_early, refuse_kind, refuse_unread};
-use radpolicy_help::STANDARD_INPUT;
+use radpolicy_common::{FileKind, Unread, refuse_early, refuse_kind};
+use radpolicy_help::{STANDARD_INPUT, refuse_at};
 use radpolicy_replay_records::ReplayFault;
+use std::alloc::{AllocError, Global};
 use std::io::Write;
 
 /// Writes a text.
@@ -42,12 +43,22 @@ pub fn refuse_replay(rt: &HostRuntime, fault: ReplayFault) -> u8 {
     match fault {
         ReplayFault::Memory => refuse_early(rt, PROGRAM, &Fault::Memory),
         ReplayFault::Output => refuse_early(rt, PROGRAM, &Fault::Write),
-        ReplayFault::Input | ReplayFault::TooManyRecords => refuse_unread(
+        ReplayFault::Input | ReplayFault::TooManyRecords => refuse_at(
             rt,
             PROGRAM,
-            Unread::File("-"),
+            &Unread::File("-").fault(),
+            b"-",
+            unread_advice(rt.alloc()),
         ),
     }
+}
+
+// What to do about standard input that could not be read.
+fn unread_advice(alloc: Global) -> Result<Vec<u8>, AllocError> {
+    Vec::from_slice(
+        alloc,
+        b"standard input could not be read: give it a file, as in radpolicy-replay .. < FILE, and no folder\n",
+    )
 }
 
 /// The same, where it is told by its kind that an input has no records.

@@ -96,7 +96,7 @@ taken_verdict replay secret entry = verdict_on replay replay.comparison secret e
 -- the same, whether it is taken or not
 unfoldable pub entry_verdict : Replay → RecordSecret → Entry → Verdict
 entry_verdict replay secret entry =
-    if is_taken replay.only entry.reply then taken_verdict replay secret entry else LeftOut
+    if is_taken replay.only entry then taken_verdict replay secret entry else LeftOut
 
 -- what is written for a record that is called so, as a test
 abbrev pub test_of : Replay → Bool → ℕ → List ℕ → RecordSecret → Entry → List ℕ
@@ -151,7 +151,7 @@ left_out_in Json number name = []
 -- what is written for a record with this number that says this
 unfoldable pub entry_text : Replay → ℕ → RecordSecret → Entry → List ℕ
 entry_text replay number secret entry =
-    if is_taken replay.only entry.reply then taken_text replay number secret entry
+    if is_taken replay.only entry then taken_text replay number secret entry
     else left_out_in replay.layout number (name_of number entry)
 
 -- what is written for the record of a line with this number

@@ -264,7 +264,7 @@ impl<'a> Replay<'a> {
             verdict ≡ entry_verdict self.now secret.now entry.now) }
         ensures kept { runners.new ≡ runners.old }
     {
-        if is_taken(self.only, &entry.reply) {
+        if is_taken(self.only, entry) {
             return self.push_taken(text, runners, number, secret, entry);
         }
         self.push_left_out(text, number, entry)?;

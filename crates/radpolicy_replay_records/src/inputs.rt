@@ -6,6 +6,7 @@ ghost use Rattle.radpolicy_traffic.specs.declared.records.Record.{Record as Give
 
 use crate::lines::first_line_end;
 use crate::replays::ReplayFault;
+use radpolicy_record_answers::LogServers;
 use radpolicy_traffic::{Format, MAX_OCTETS, Reader, Record};
 use std::alloc::{AllocError, Global};
 use std::collections::VecDeque;
@@ -36,6 +37,8 @@ struct JoinedLines {
     line: Vec<u8>,
     // The records that are whole.
     ready: VecDeque<Record>,
+    // The virtual servers that the lines name, where it is asked for the records of one.
+    servers: Option<LogServers>,
 }
 
 // Adds to what is kept of a line, of which no more is kept than shows that it is too long.
@@ -51,6 +54,9 @@ impl JoinedLines {
     fn end_line(&mut self) -> Result<(), AllocError> {
         if let Some(record) = self.reader.line(&self.line)? {
             self.ready.push_back(record)?;
+        }
+        if let Some(servers) = &mut self.servers {
+            servers.look(&self.line)?;
         }
         self.line.clear();
         Ok(())
@@ -84,6 +90,7 @@ impl<R: Read + Drop> RecordReader<R> {
             reader: Reader::new(alloc, format),
             line: Vec::new(alloc),
             ready: VecDeque::new(alloc),
+            servers: None,
         };
         Ok(RecordReader {
             input,
@@ -99,6 +106,7 @@ impl<R: Read + Drop> RecordReader<R> {
             reader: Reader::of_server(alloc, server)?,
             line: Vec::new(alloc),
             ready: VecDeque::new(alloc),
+            servers: Some(LogServers::new(alloc)),
         };
         Ok(RecordReader {
             input,
@@ -106,6 +114,11 @@ impl<R: Read + Drop> RecordReader<R> {
             lines,
             is_over: false,
         })
+    }
+
+    /// The virtual servers that the log names, as far as it was read, where it is asked for the records of one.
+    pub fn servers(&self) -> Option<&LogServers> {
+        self.lines.servers.as_ref()
     }
 
     // Reads the next block. A last line needs no end.

@@ -1,5 +1,6 @@
 //! The dialogue: commands are read, and what they come to is shown.
 
+use crate::PROGRAM;
 use avp_dict::{LineFault, LineKind, next_line};
 use avp_forms::{Profile, read_request};
 use avp_lists::{EditFault, List, Pair};
@@ -17,6 +18,9 @@ use std::io::{IsTerminal, Write};
 // The octet with which a terminal begins what a key says that moves.
 const ESCAPE: u8 = 0x1b;
 
+// What is said of a line that is no text, and so no command.
+const NOT_TEXT: &str = "no command: the line is not UTF-8";
+
 /// How a dialogue ended.
 #[derive(Clone, Copy, Debug, PartialEq, Eq)]
 pub enum Ending {
@@ -27,6 +31,18 @@ pub enum Ending {
     Input,
     /// What was to be shown could not be written.
     Output,
+    /// A line of the script is no command. It was told which.
+    Script,
+}
+
+/// What came of a line.
+#[derive(Drop)]
+enum Obeyed {
+    Done,
+    /// It is the command to end.
+    Quit,
+    /// It is no command, or is refused, for what is said.
+    Refused(String),
 }
 
 impl From<AllocError> for Ending {
@@ -146,54 +162,55 @@ fn complaint(alloc: Global, asked: Asked<'_>) -> Result<String, AllocError> {
         Asked::Make(_) | Asked::Set(_, _) | Asked::Again => Ok(String::new(alloc)),
         Asked::Unknown(word, nearest) => {
             let word = told(word);
-            format!(in alloc; "no command \"{word}\"; the nearest is {nearest}\n")
+            format!(in alloc; "no command \"{word}\"; the nearest is {nearest}")
         }
-        Asked::Misused(usage) => format!(in alloc; "write: {usage}\n"),
+        Asked::Misused(usage) => format!(in alloc; "write: {usage}"),
         Asked::NoNumber(word) => {
             let word = told(word);
-            format!(in alloc; "\"{word}\" is no number\n")
+            format!(in alloc; "\"{word}\" is no number")
         }
         Asked::NoAttribute(word) => {
             let word = told(word);
-            format!(in alloc; "no attribute \"{word}\"\n")
+            format!(in alloc; "no attribute \"{word}\"")
         }
         Asked::NoList(word) => {
             let word = told(word);
-            format!(in alloc; "no list \"{word}\"; they are request, reply and control\n")
+            format!(in alloc; "no list \"{word}\"; they are request, reply and control")
         }
     }
 }
 
-// Says why a line is no command.
-fn complain(rt: &HostRuntime, asked: Asked<'_>) -> Result<(), Ending> {
-    let said = complaint(rt.alloc(), asked)?;
-    let visible = visible_text(rt.alloc(), said.as_bytes(), LineBreaks::Kept)?;
+// The place of a line of a script.
+fn script_place(alloc: Global, path: &str, line: usize) -> Result<String, AllocError> {
+    let number = Fault::ScriptWord { line }.number();
+    format!(in alloc; "{PROGRAM}: {path}:{line}: E{number:02} ")
+}
+
+// Says why a line was not obeyed, behind its place if it has one.
+fn complain(rt: &HostRuntime, place: &str, said: &str) -> Result<(), Ending> {
+    let line = format!(in rt.alloc(); "{place}{said}")?;
+    let visible = visible_text(rt.alloc(), line.as_bytes(), LineBreaks::Escaped)?;
     let _ = rt.stderr().write_all(&visible);
+    let _ = rt.stderr().write_all(b"\n");
     Ok(())
 }
 
-// Says that a line is no text, and so no command.
-fn complain_of_octets(rt: &HostRuntime) {
-    let _ = eprintln!(rt; "no command: the line is not UTF-8");
-}
-
 // Why an attribute is not set; none where memory is short.
-fn refused(rt: &HostRuntime, fault: Fault) -> Result<(), Ending> {
-    match fault {
+fn not_set(alloc: Global, fault: Fault) -> Result<Obeyed, Ending> {
+    let said = match fault {
         Fault::Memory => return Err(Ending::Memory),
         Fault::Request(
             LineFault {
                 kind: LineKind::Unreadable,
                 ..
             },
-        ) => {
-            let _ = eprintln!(rt; "not set: write one pair, as in set reply Session-Timeout = 600");
-        }
-        fault => {
-            let _ = eprintln!(rt; "not set: {fault}");
-        }
-    }
-    Ok(())
+        ) => String::from_str(
+            alloc,
+            "not set: write one pair, as in set reply Session-Timeout = 600",
+        ),
+        fault => format!(in alloc; "not set: {fault}"),
+    }?;
+    Ok(Obeyed::Refused(said))
 }
 
 impl<'a, 't> Dialogue<'a, 't> {
@@ -346,34 +363,46 @@ impl<'a, 't> Dialogue<'a, 't> {
 
     // Sets an attribute in an initial list, begins the run anew, and shows the list. A line that is refused changes
     // nothing.
-    fn set(&mut self, rt: &HostRuntime, list: List, line: &str) -> Result<(), Ending> {
+    fn set(&mut self, rt: &HostRuntime, list: List, line: &str) -> Result<Obeyed, Ending> {
         match self.start_with(rt.alloc(), list, line) {
             Ok(start) => {
                 self.session
                     .begin_anew(rt.alloc(), start, self.beginning.hiding)?;
                 let text = self.lists_text(rt.alloc(), Command::Show(Some(list)))?;
-                self.show(rt, &text)
+                self.show(rt, &text)?;
+                Ok(Obeyed::Done)
             }
-            Err(fault) => refused(rt, fault),
+            Err(fault) => not_set(rt.alloc(), fault),
         }
     }
 
-    // Makes what a line asks for; false at the command to end.
-    fn obey(&mut self, rt: &HostRuntime, line: &str) -> Result<bool, Ending> {
+    // Makes what a line asks for.
+    fn obey(&mut self, rt: &HostRuntime, line: &str) -> Result<Obeyed, Ending> {
+        let alloc = rt.alloc();
         if line.as_bytes().contains(&ESCAPE) {
-            let _ = eprintln!(rt;
-                "keys that move are not read: an empty line repeats the command before"
-            );
-            return Ok(true);
+            let said = "keys that move are not read: an empty line repeats the command before";
+            return Ok(Obeyed::Refused(String::from_str(alloc, said)?));
         }
-        match read_command(rt.alloc(), self.session.dictionary(), line)? {
-            Asked::Make(Command::Quit) => return Ok(false),
+        match read_command(alloc, self.session.dictionary(), line)? {
+            Asked::Make(Command::Quit) => return Ok(Obeyed::Quit),
             Asked::Make(command) => self.make(rt, command)?,
-            Asked::Set(list, line) => self.set(rt, list, line)?,
+            Asked::Set(list, line) => return self.set(rt, list, line),
             Asked::Again => self.make(rt, self.last)?,
-            asked => complain(rt, asked)?,
+            asked => return Ok(Obeyed::Refused(complaint(alloc, asked)?)),
         }
-        Ok(true)
+        Ok(Obeyed::Done)
+    }
+
+    // Makes what a line of a terminal or a pipe asks for, and says whether the walk goes on.
+    fn obey_or_complain(&mut self, rt: &HostRuntime, line: &str) -> Result<bool, Ending> {
+        match self.obey(rt, line)? {
+            Obeyed::Done => Ok(true),
+            Obeyed::Quit => Ok(false),
+            Obeyed::Refused(said) => {
+                complain(rt, "", said.as_str())?;
+                Ok(true)
+            }
+        }
     }
 
     fn obey_input(&mut self, rt: &HostRuntime) -> Result<(), Ending> {
@@ -381,14 +410,16 @@ impl<'a, 't> Dialogue<'a, 't> {
         for line in rt.lines(rt.alloc()) {
             match line {
                 Ok(line) => {
-                    if !self.obey(rt, line.as_str())? {
+                    if !self.obey_or_complain(rt, line.as_str())? {
                         return Ok(());
                     }
                 }
                 Err(error) if error.kind() == io::ErrorKind::OutOfMemory => {
                     return Err(Ending::Memory);
                 }
-                Err(error) if error.kind() == io::ErrorKind::InvalidData => complain_of_octets(rt),
+                Err(error) if error.kind() == io::ErrorKind::InvalidData => {
+                    complain(rt, "", NOT_TEXT)?;
+                }
                 Err(_) => return Err(Ending::Input),
             }
             prompt(rt)?;
@@ -396,20 +427,36 @@ impl<'a, 't> Dialogue<'a, 't> {
         Ok(())
     }
 
-    fn obey_script(&mut self, rt: &HostRuntime, script: &[u8]) -> Result<(), Ending> {
+    // Makes what a line of a script asks for.
+    fn obey_octets(&mut self, rt: &HostRuntime, line: &[u8]) -> Result<Obeyed, Ending> {
+        match str::from_utf8(line) {
+            Ok(line) => self.obey(rt, line),
+            Err(_) => Ok(Obeyed::Refused(String::from_str(rt.alloc(), NOT_TEXT)?)),
+        }
+    }
+
+    // Makes what the lines of a script ask for. Lines that are refused are passed over, and told with their places.
+    fn obey_script(&mut self, rt: &HostRuntime, path: &str, script: &[u8]) -> Result<(), Ending> {
         let mut rest = script;
+        let mut number: usize = 0;
+        let mut ending = Ok(());
         while let Some((line, after)) = next_line(rest) {
-            match str::from_utf8(line) {
-                Ok(line) => {
-                    if !self.obey(rt, line)? {
-                        return Ok(());
-                    }
+            number = number.saturating_add(1);
+            match self.obey_octets(rt, line)? {
+                Obeyed::Done => {}
+                Obeyed::Quit => return ending,
+                Obeyed::Refused(said) => {
+                    complain(
+                        rt,
+                        script_place(rt.alloc(), path, number)?.as_str(),
+                        said.as_str(),
+                    )?;
+                    ending = Err(Ending::Script);
                 }
-                Err(_) => complain_of_octets(rt),
             }
             rest = after;
         }
-        Ok(())
+        ending
     }
 
     fn begin(&mut self, rt: &HostRuntime) -> Result<(), Ending> {
@@ -425,10 +472,13 @@ impl<'a, 't> Dialogue<'a, 't> {
         }
     }
 
-    /// Shows the start, and then makes the commands of a script.
-    pub fn follow_script(&mut self, rt: &HostRuntime, script: &[u8]) -> Ending {
+    /// Shows the start, and then makes the commands of a script, which is in a file of this path.
+    pub fn follow_script(&mut self, rt: &HostRuntime, path: &str, script: &[u8]) -> Ending {
         match self.begin(rt) {
-            Ok(()) => self.obey_script(rt, script).err().unwrap_or(Ending::Done),
+            Ok(()) => self
+                .obey_script(rt, path, script)
+                .err()
+                .unwrap_or(Ending::Done),
             Err(ending) => ending,
         }
     }

@@ -184,6 +184,7 @@ fn status_of_ending(rt: &HostRuntime, ending: Ending) -> u8 {
         Ending::Memory => refuse_early(rt, PROGRAM, &Fault::Memory),
         Ending::Output => refuse_early(rt, PROGRAM, &Fault::Write),
         Ending::Input => refuse_unread(rt, PROGRAM, Unread::File("-")),
+        Ending::Script => status(&Fault::ScriptWord { line: 0 }),
     }
 }
 
@@ -192,6 +193,7 @@ fn walk_from<'a>(
     rt: &HostRuntime,
     beginning: Beginning<'a>,
     start: Start<'a>,
+    path: &str,
     files: &Files,
 ) -> Result<Ending, AllocError> {
     let alloc = rt.alloc();
@@ -201,7 +203,7 @@ fn walk_from<'a>(
     let lines = PolicyLines::new(alloc, text, &shown)?;
     let mut dialogue = Dialogue::new(rt, beginning, session, lines, files.title.as_slice());
     Ok(match &files.script {
-        Some(script) => dialogue.follow_script(rt, script.as_slice()),
+        Some(script) => dialogue.follow_script(rt, path, script.as_slice()),
         None => dialogue.follow_input(rt),
     })
 }
@@ -232,7 +234,7 @@ fn walk_with(
             given,
         },
     };
-    let ending = walk_from(rt, beginning, start, files)?;
+    let ending = walk_from(rt, beginning, start, plan.script.unwrap_or(""), files)?;
     Ok(status_of_ending(rt, ending))
 }
 
