@@ -127,7 +127,7 @@ def check_escapes(subject: Subject, report: Report, root: Path) -> None:
     ended = walk(subject, folder, words)
     wrong = [f"{octet:#x} is in {ended.errors!r}" for octet in b"\033\x07\xff" if octet in ended.errors]
     wrong += [f"a control character is in {ended.errors!r}"] if "\x9b".encode() in ended.errors else []
-    wrong += [] if len(ended.errors.splitlines()) == 5 and ended.status == 0 else [f"{ended.errors!r}, {ended.status}"]
+    wrong += [] if len(ended.errors.splitlines()) == 5 and ended.status == 2 else [f"{ended.errors!r}, {ended.status}"]
     report.check("commands with control characters", wrong)
 
 
