@@ -42,7 +42,7 @@ def place(folder: Path, policy: Policy, request: bytes) -> List[str]:
 def faults_of(subject: Subject, folder: Path, policy: Policy, words: Sequence[str], request: Request) -> List[str]:
     """What is wrong with a walk through a policy, over a request with more secrets."""
     ended = walk(subject, folder, words)
-    if ended.status != 0:
+    if ended.status != 2:
         return [f"{ended.errors.decode()} of {policy.text}"]
     hidden = [it.encode() for it in policy.secrets] + request.secrets + [b"set anew by hand"]
     found = leaks(ended.output + ended.errors, hidden)

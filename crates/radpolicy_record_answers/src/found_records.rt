@@ -335,7 +335,7 @@ fn missing_from(
 ) -> Result<Search, AllocError> {
     match asked.server {
         Some(server) if wanted.read == 0 => {
-            let mut said = Vec::from_slice(alloc, b"is a log, and ")?;
+            let mut said = Vec::from_slice(alloc, b"tells that ")?;
             said.extend_from_slice(&LogServers::of_log(alloc, text)?.text(server)?)?;
             Ok(Search::Missing(said))
         }

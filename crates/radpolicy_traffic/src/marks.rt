@@ -89,7 +89,7 @@ pub(crate) fn split_number(line: &[u8]) -> Option<(&[u8], &[u8])>
 /// The virtual server to which a request out of a tunnel goes, as of PEAP or TTLS, where a line of a server's log says it.
 pub fn tunnel_server(line: &[u8]) -> Option<&[u8]> {
     let (_, text) = split_number(line)?;
-    inner_server(text)
+    inner_server(after_blanks(text))
 }
 
 fn packet_mark(heading: Heading<'_>) -> Mark<'_>
