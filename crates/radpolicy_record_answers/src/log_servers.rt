@@ -2,7 +2,7 @@
 
 use crate::found_records::NameList;
 use radpolicy_common::{LineBreaks, visible_text};
-use radpolicy_traffic::tunnel_server;
+use radpolicy_traffic::receiving_server;
 use std::alloc::{AllocError, Global};
 use std::str;
 
@@ -40,7 +40,7 @@ impl LogServers {
 
     /// Looks at the next line.
     pub fn look(&mut self, line: &[u8]) -> Result<(), AllocError> {
-        if let Some(name) = tunnel_server(line)
+        if let Some(name) = receiving_server(line)
             && self.names.len() < MOST_SERVERS
             && !self.has(name)
         {

@@ -11,6 +11,6 @@ mod records;
 mod texts;
 
 pub use formats::{Format, format_of};
-pub use marks::tunnel_server;
+pub use marks::receiving_server;
 pub use reader::{MAX_OPEN, Reader};
 pub use records::{Code, MAX_LINES, MAX_OCTETS, Record, Reply};

@@ -86,12 +86,6 @@ pub(crate) fn split_number(line: &[u8]) -> Option<(&[u8], &[u8])>
     }
 }
 
-/// The virtual server to which a request out of a tunnel goes, as of PEAP or TTLS, where a line of a server's log says it.
-pub fn tunnel_server(line: &[u8]) -> Option<&[u8]> {
-    let (_, text) = split_number(line)?;
-    inner_server(after_blanks(text))
-}
-
 fn packet_mark(heading: Heading<'_>) -> Mark<'_>
     ensures { IsNoAttribute result }
 {
@@ -222,7 +216,7 @@ fn inner_heading(number: &[u8], code: Code) -> Heading<'_> {
 }
 
 /// The virtual server that a line of a server's log says to have received a request out of a tunnel.
-pub(crate) fn receiving_server(line: &[u8]) -> Option<&[u8]> {
+pub fn receiving_server(line: &[u8]) -> Option<&[u8]> {
     let (_, rest) = split_number(line)?;
     inner_server(after_blanks(rest))
 }
