@@ -30,6 +30,8 @@ pub enum Search {
     NoRequest,
     /// There is none. What records there are instead, in words.
     Missing(Vec<u8>),
+    /// No request goes to the virtual server that is named. What is said of those that are, in words.
+    OtherServers(Vec<u8>),
     /// They are lines of packets, and were not looked for.
     Packets,
 }
@@ -288,6 +290,10 @@ pub fn search_text(
             let others = String::from_utf8_lossy(alloc, others)?;
             format!(in alloc; "there is no record {name}: {path} {others}\n")
         }
+        Search::OtherServers(said) => {
+            let said = String::from_utf8_lossy(alloc, said)?;
+            format!(in alloc; "{path}: {said}\n")
+        }
         Search::Packets => {
             format!(in alloc; "{path} has lines of packets: write --hex and -S SECRET-FILE too\n")
         }
@@ -334,11 +340,9 @@ fn missing_from(
     wanted: &Wanted<'_>,
 ) -> Result<Search, AllocError> {
     match asked.server {
-        Some(server) if wanted.read == 0 => {
-            let mut said = Vec::from_slice(alloc, b"tells that ")?;
-            said.extend_from_slice(&LogServers::of_log(alloc, text)?.text(server)?)?;
-            Ok(Search::Missing(said))
-        }
+        Some(server) if wanted.read == 0 => Ok(Search::OtherServers(LogServers::of_log(
+            alloc, text,
+        )?.text(server)?)),
         _ => wanted.missing(alloc),
     }
 }
