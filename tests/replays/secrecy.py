@@ -229,7 +229,7 @@ ROWS: List[Tuple[str, bytes, bytes, List[str], bytes]] = [
      b"radpolicy-replay: E02 Reply-Mesage: option value: no attribute has the name Reply-Mesage: write Reply-Message\n"),
     ("a faulty old policy", b"ok\n", b"ok\nupdate reply {\n\tNosuch := 1\n}\n", ["--against", "old"],
      b"radpolicy-replay: old:3:2: E32 no attribute has the name Nosuch: give the dictionary file that has its ATTRIBUTE"
-     b" line, and include it\n"),
+     b" line too, and write $INCLUDE and its name into dictionary\n"),
 ]
 
 
