@@ -4,6 +4,7 @@ use crate::command_line::Plan;
 use crate::fixed_page::{AFTER_DATA, AFTER_LISTS, BEFORE_LISTS};
 use radpolicy_common::{Call, Comments, Output, OutputFault, Outputs};
 use radpolicy_page_data::Page;
+use radpolicy_starts::StartPlan;
 use std::alloc::{AllocError, Global};
 
 /// What the program is called in its faults and in the pages that it writes.
@@ -21,7 +22,7 @@ fn page_text(alloc: Global, page: &Page) -> Result<Vec<u8>, AllocError> {
 }
 
 // The paths of all files that were read.
-fn inputs_of<'a>(alloc: Global, plan: &Plan<'a>) -> Result<Vec<&'a str>, AllocError> {
+fn inputs_of<'a>(alloc: Global, plan: &StartPlan<'a>) -> Result<Vec<&'a str>, AllocError> {
     let mut inputs = Vec::from_slice(alloc, &plan.dictionaries)?;
     inputs.push(plan.request.unwrap_or("/dev/stdin"))?;
     inputs.push(plan.policy)?;
@@ -40,7 +41,7 @@ pub fn write_page<'a>(
     page: &Page,
 ) -> Result<(), OutputFault<'a>> {
     let text = page_text(rt.alloc(), page)?;
-    let inputs = inputs_of(rt.alloc(), plan)?;
+    let inputs = inputs_of(rt.alloc(), &plan.start)?;
     let call = Call {
         program: PROGRAM,
         is_forced: plan.is_forced,

@@ -5,13 +5,12 @@ ghost use Rattle.radpolicy.specs.Faults.{IsWordFault};
 
 use clap::{Arg, ArgMatches};
 use radpolicy::{Fault, Form};
-use radpolicy_common::SecretValues;
 use radpolicy_options::{
-    ACCOUNTING, CONTROL, DICTIONARY, FOLDER, HEX, HIDE, POLICY, REPLY, REQUEST, SECRET,
-    SHOW_SECRETS, accounting_flag, control_option, dictionary_files, flag, folder_option, hex_flag,
-    hide_option, lettered, matches_of, record_in, record_option, reply_option, server_in,
-    server_option, shown_secrets, valued, words_in, zone_in, zone_option,
+    ACCOUNTING, HEX, POLICY, REQUEST, SECRET, SHOW_SECRETS, accounting_flag, control_option,
+    dictionary_files, flag, folder_option, hex_flag, hide_option, lettered, matches_of, record_in,
+    record_option, reply_option, server_in, server_option, valued, zone_option,
 };
+use radpolicy_starts::StartPlan;
 use std::alloc::{AllocError, Global};
 use std::convert::AsStr;
 
@@ -20,27 +19,9 @@ const SCRIPT: &str = "script";
 /// What a command line asks for.
 #[derive(Drop)]
 pub struct Plan<'a> {
-    pub form: Form,
-    /// The request's file; standard input where there is none.
-    pub request: Option<&'a str>,
-    /// The name of the record that is the request, where the file has several.
-    pub record: Option<&'a str>,
-    /// The virtual server to which the record's request goes, where it comes out of a tunnel.
-    pub server: Option<&'a str>,
-    pub policy: &'a str,
-    pub secret: Option<&'a str>,
-    pub reply: Option<&'a str>,
-    pub control: Option<&'a str>,
-    /// How many minutes the clocks of a zone other than UTC that a date names are before UTC's.
-    pub zone: Option<i16>,
+    pub start: StartPlan<'a>,
     /// The file of the commands; standard input where there is none.
     pub script: Option<&'a str>,
-    pub secrets: SecretValues,
-    /// The names of attributes that are hidden as well.
-    pub hidden: Vec<&'a str>,
-    /// The folder of further dictionaries.
-    pub folder: Option<&'a str>,
-    pub dictionaries: Vec<&'a str>,
 }
 
 fn request_option<'a>(alloc: Global) -> Arg<'a> {
@@ -105,22 +86,9 @@ fn plan_of<'a>(alloc: Global, found: &ArgMatches<'a>) -> Result<Plan<'a>, Fault>
     if request.is_none() && script.is_none() {
         return Err(Fault::OptionValue);
     }
-    let form = form_of(found)?;
     Ok(Plan {
-        form,
-        request,
-        record: record_in(found, form)?,
-        server: server_in(found, form)?,
-        policy: found.get_str(POLICY).ok_or(Fault::Usage)?,
-        secret: found.get_str(SECRET),
-        reply: found.get_str(REPLY),
-        control: found.get_str(CONTROL),
-        zone: zone_in(found)?,
+        start: StartPlan::of_words(alloc, found, form_of(found)?)?,
         script,
-        secrets: shown_secrets(found),
-        hidden: words_in(alloc, found, HIDE)?,
-        folder: found.get_str(FOLDER),
-        dictionaries: words_in(alloc, found, DICTIONARY)?,
     })
 }
 
