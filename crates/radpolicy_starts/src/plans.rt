@@ -1,7 +1,8 @@
 //! What words say of the run.
 
-ghost use Rattle.std.specs.Prelude.{IfErr};
+ghost use Rattle.std.specs.Prelude.{◌≡◌, IfErr};
 ghost use Rattle.radpolicy.specs.Faults.{IsWordFault};
+ghost use Rattle.radpolicy_starts.specs.Starting.{head_by};
 
 use clap::ArgMatches;
 use radpolicy::{Fault, Form, RequestHead, RequestKind};
@@ -69,7 +70,9 @@ impl<'a> StartPlan<'a> {
     }
 
     /// The head of a request of lines. An authenticator is that of an Access-Request.
-    pub fn head(&self) -> RequestHead {
+    pub fn head(&self) -> RequestHead
+        ensures { result ≡ head_by self.now.form self.now.identifier self.now.authenticator }
+    {
         match self.form {
             Form::Accounting => RequestHead {
                 kind: RequestKind::Accounting,

@@ -1,8 +1,11 @@
 //! What the files of a plan hold, and the start of the run over it.
 
-ghost use Rattle.std.specs.Prelude.{◌≡◌, ◌<◌, IfErr, IfOk, length};
+ghost use Rattle.std.specs.Prelude.{◌≡◌, ◌<◌, [], IfErr, IfOk, Some, length};
+ghost use Rattle.std.specs.Option.{option_copied};
 ghost use Rattle.avp_dict.specs.Lines.{HasDistinctNames};
 ghost use Rattle.radpolicy.specs.Faults.{IsPrintedAnywhere};
+ghost use Rattle.radpolicy.specs.Received.{hex_octets};
+ghost use Rattle.radpolicy_starts.specs.Starting.{IsAlone, IsListIn, IsStart};
 
 use crate::plans::StartPlan;
 use avp_dict::FileSet;
@@ -37,7 +40,8 @@ fn read_request<'a>(rt: &HostRuntime, plan: &StartPlan<'a>) -> Result<Octets, Un
 
 // The octets of a packet in hexadecimal digits.
 fn packet_octets(alloc: Global, text: &[u8]) -> Result<Vec<u8>, Fault>
-    ensures { IfErr result IsPrintedAnywhere }
+    ensures octets { IfOk result (λ octets. hex_octets text.now ≡ Some octets.items) }
+    ensures printed { IfErr result IsPrintedAnywhere }
 {
     match hex_octets(alloc, text)? {
         Some(octets) => Ok(octets),
@@ -107,7 +111,9 @@ impl StartFiles {
         secret: Option<&'a Secret<'a>>,
         plan: &StartPlan<'_>,
     ) -> Result<Start<'a>, Fault>
-        ensures { IfErr result IsPrintedAnywhere }
+        ensures start { IfOk result (IsAlone plan.now self.now prepared.entry.now
+            (option_copied secret.entry)) }
+        ensures printed { IfErr result IsPrintedAnywhere }
     {
         let request = self.request.as_slice();
         match (plan.form, secret) {
@@ -127,8 +133,39 @@ impl StartFiles {
         }
     }
 
+    // A start with empty lists, with those of their files.
+    fn with_lists<'a>(
+        &self,
+        alloc: Global,
+        alone: Start<'a>,
+        zone: Option<i16>,
+    ) -> Result<Start<'a>, Fault>
+        requires reply { alone.reply ≡ [] }
+        requires control { alone.control ≡ [] }
+        ensures reply { IfOk result (λ start. IsListIn alone.entry.prepared.dictionary zone
+            self.now.reply start.reply) }
+        ensures control { IfOk result (λ start. IsListIn alone.entry.prepared.dictionary zone
+            self.now.control start.control) }
+        ensures start { IfOk result (λ start. start
+            ≡ record alone.entry { reply = start.reply; control = start.control }) }
+        ensures printed { IfErr result IsPrintedAnywhere }
+    {
+        let start = match &self.reply {
+            Some(lines) => {
+                alone.with_reply_lines(alloc, Profile::Wider, zone, lines.as_slice())?
+            }
+            None => alone,
+        };
+        match &self.control {
+            Some(lines) => {
+                start.with_control_lines(alloc, Profile::Wider, zone, lines.as_slice())
+            }
+            None => Ok(start),
+        }
+    }
+
     /// The start of the run: over the packet in hexadecimal digits where the request is one and there is a secret, else
-    /// over its lines; with the reply and control lists of their files.
+    /// over its lines; with the reply and control lists of their files, all read in the forms of the wider profile.
     pub fn start<'a>(
         &self,
         alloc: Global,
@@ -136,20 +173,11 @@ impl StartFiles {
         secret: Option<&'a Secret<'a>>,
         plan: &StartPlan<'_>,
     ) -> Result<Start<'a>, Fault>
-        ensures { IfErr result IsPrintedAnywhere }
+        ensures start { IfOk result (IsStart plan.now self.now prepared.entry.now
+            (option_copied secret.entry)) }
+        ensures printed { IfErr result IsPrintedAnywhere }
     {
         let alone = self.start_alone(alloc, prepared, secret, plan)?;
-        let start = match &self.reply {
-            Some(lines) => {
-                alone.with_reply_lines(alloc, Profile::Wider, plan.zone, lines.as_slice())?
-            }
-            None => alone,
-        };
-        match &self.control {
-            Some(lines) => {
-                start.with_control_lines(alloc, Profile::Wider, plan.zone, lines.as_slice())
-            }
-            None => Ok(start),
-        }
+        self.with_lists(alloc, alone, plan.zone)
     }
 }
