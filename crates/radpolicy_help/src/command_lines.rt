@@ -6,7 +6,6 @@ ghost use Rattle.radpolicy_common.specs.declared.terminals.LineBreaks.TheVariant
 
 use crate::nearest::nearest_of;
 use crate::texts::{push_all, push_choices};
-use avp_dict::next_line;
 use radpolicy::{Fault, help_text, option_text};
 use radpolicy_common::{LineBreaks, visible_text};
 use std::alloc::{AllocError, Global};
@@ -128,13 +127,15 @@ pub(crate) fn explain_options(
     if !matches!(fault, Fault::Usage | Fault::OptionValue) {
         return Ok(help);
     }
-    let mut rest = said.as_bytes();
-    while let Some((line, after)) = next_line(rest) {
+    for line in said
+        .trim_end_matches('\n')
+        .as_bytes()
+        .split(|octet| *octet == b'\n')
+    {
         if !is_no_advice(line) {
             help.extend_from_slice(line)?;
             help.push(b'\n')?;
         }
-        rest = after;
     }
     push_all(&mut help, &[program, " --help lists its options\n"])?;
     visible_text(alloc, &help, LineBreaks::Kept)

@@ -1,5 +1,5 @@
-//! Conditions that a server groups otherwise, or refuses. A tree has neither parentheses nor quotes, so they are looked
-//! for in the text.
+//! Conditions that a server groups otherwise, or refuses, and texts that nobody expands. A tree has neither parentheses
+//! nor quotes, so they are looked for in the text.
 
 use crate::policy_tokens::{Token, tokens};
 use policy_warnings::{Joint, regroups};
@@ -61,6 +61,18 @@ pub(crate) fn slashed(alloc: Global, text: &[u8]) -> Result<Vec<usize>, AllocErr
             _ => {}
         }
         is_compared = open > 0 && is_comparison(token.text());
+    }
+    Ok(found)
+}
+
+/// Where a text between single quotes begins that has an expansion in it: how many octets of the policy's text are before
+/// it.
+pub(crate) fn unexpanded(alloc: Global, text: &[u8]) -> Result<Vec<usize>, AllocError> {
+    let mut found = Vec::new(alloc);
+    for token in &tokens(alloc, text)? {
+        if token.octets.starts_with(b"'") && token.text().contains("%{") {
+            found.push(token.offset)?;
+        }
     }
     Ok(found)
 }

@@ -143,25 +143,22 @@ fn push_nearest_attributes(
     push_all(help, &["\n"])
 }
 
-// Adds what to do about a name whose ATTRIBUTE line is in a file.
-fn push_unread_line(
+/// Adds what to do about a name whose line, of this keyword, is in a file.
+pub(crate) fn push_unread_line(
     help: &mut Vec<u8>,
     dictionaries: &[&str],
     path: &str,
+    keyword: &str,
 ) -> Result<(), AllocError> {
     let main = main_file(dictionaries);
+    push_all(help, &[path, " has its ", keyword, " line"])?;
     if main == path {
-        return push_all(
-            help,
-            &[path, " has its ATTRIBUTE line, whose type is not read\n"],
-        );
+        return push_all(help, &[", which is not read\n"]);
     }
     push_all(
         help,
         &[
-            path,
-            " has its ATTRIBUTE line: no file includes that one, or the line's type is not read\n\
-            write $INCLUDE ",
+            ": no file includes that one, or the line is not read\nwrite $INCLUDE ",
             text_of(last_component(path.as_bytes())),
             " into ",
             main,
@@ -180,7 +177,7 @@ pub(crate) fn push_unknown_attribute(
     name: &str,
 ) -> Result<(), AllocError> {
     if let Some(path) = path_with_attribute(alloc, sources, name)? {
-        return push_unread_line(help, sources.dictionaries, path);
+        return push_unread_line(help, sources.dictionaries, path, "ATTRIBUTE");
     }
     match &sources.dictionary(alloc) {
         Some(dictionary) => {
@@ -222,6 +219,36 @@ fn value_in_line<'a>(
         )),
         _ => Ok(""),
     }
+}
+
+fn has_value_line(
+    alloc: Global,
+    text: &[u8],
+    attribute: &str,
+    value: &str,
+) -> Result<bool, AllocError> {
+    for line in text.split(|octet| *octet == b'\n') {
+        let name = value_in_line(alloc, line, attribute)?;
+        if !name.is_empty() && name.eq_ignore_ascii_case(value) {
+            return Ok(true);
+        }
+    }
+    Ok(false)
+}
+
+/// The path of the first file that has a line for a value of an attribute.
+pub(crate) fn path_with_value<'a>(
+    alloc: Global,
+    sources: &Sources<'a>,
+    attribute: &str,
+    value: &str,
+) -> Result<Option<&'a str>, AllocError> {
+    for (file, path) in sources.files.as_slice().iter().zip(sources.dictionaries) {
+        if has_value_line(alloc, file.octets.as_slice(), attribute, value)? {
+            return Ok(Some(*path));
+        }
+    }
+    Ok(None)
 }
 
 // The names that a file's lines give to the values of an attribute.

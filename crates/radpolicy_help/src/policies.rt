@@ -35,19 +35,26 @@ pub(crate) const STATEMENT_WORDS: [&str; 10] = [
     "reject",
 ];
 
+/// What to do about a list that only a server has.
+pub(crate) const OTHER_LISTS: &str =
+    "of the server's lists there are request, reply and control; radpolicy-import --write-dictionary gives \
+    attributes of the others names of their own\n";
+
 const LISTS: [&str; 3] = ["request", "reply", "control"];
 
 // Words that begin no statement here, and what to do.
-const STATEMENT_HINTS: [(&[&str], &str); 7] = [
+const STATEMENT_HINTS: [(&[&str], &str); 8] = [
     (
         &["switch", "case"],
         "switch is left out here: write if (&Name == value) { .. } elsif (..) { .. }, as \
         radpolicy-import does",
     ),
     (
-        &["foreach", "break"],
-        "loops are left out here: of an attribute the first instance alone can be used, as &Name",
+        &["foreach", "while", "break"],
+        "loops are left out here: of an attribute the first instance alone can be used, as in \
+        update reply { Class := &Class }",
     ),
+    (&["unless"], "write if (!(..)) { .. }"),
     (
         &[
             "authorize",
@@ -137,13 +144,16 @@ fn push_statement_hint(
             help,
             &[
                 "a section's or policy's own line is left out here: write only what is between its { \
-            and }\n",
+            and }; of a module with actions take out both\n",
             ],
         )
     } else {
         push_all(
             help,
-            &["modules are left out here: write what it would set, as update control { .. }\n"],
+            &[
+                "modules are left out here: take it out, as radpolicy-import does, or write what it would set, \
+                as update control { .. }\n",
+            ],
         )
     }
 }
@@ -191,6 +201,9 @@ fn update_hint(context: &Context<'_>, found: &str) -> &'static str {
         (Expected::Value, "}") => "the value is missing",
         (Expected::Value, _) => "put a text with other signs or blanks into quotes",
         (Expected::Line, "if" | "else" | "elsif") => "an update has only lines that set attributes",
+        (Expected::Line, _) if found.starts_with("\"") || found.starts_with("'") => {
+            "a line sets one value: write a line for each, with += from the second on"
+        }
         (Expected::Line, _) =>
             "end the update with } before it, or put a text with blanks into quotes",
         _ => "write the attribute's name after the &",
@@ -199,10 +212,7 @@ fn update_hint(context: &Context<'_>, found: &str) -> &'static str {
 
 fn push_list_hint(alloc: Global, help: &mut Vec<u8>, found: &str) -> Result<(), AllocError> {
     if found.starts_with("outer.") || found.contains("proxy") || found == "session-state" {
-        return push_all(
-            help,
-            &["of the server's lists there are request, reply and control\n"],
-        );
+        return push_all(help, &[OTHER_LISTS]);
     }
     let names = nearest_of(alloc, found, &LISTS)?;
     if names.is_empty() {

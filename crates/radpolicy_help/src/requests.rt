@@ -21,19 +21,20 @@ fn is_of_detail(text: &[u8], rest: &str) -> bool {
     !rest.contains("=") && text.windows(2).any(|two| two == b"\n\t".as_slice())
 }
 
-// Whether a line is one of a server's log, most of which begin with the number of a request between brackets.
-fn is_of_log(rest: &str) -> bool {
-    match rest.as_bytes() {
-        [b'(', b'0'..=b'9', ..] => true,
-        _ => rest.starts_with("FreeRADIUS Version"),
-    }
+// Whether a text is of a server's log: it tells of requests that were received.
+fn is_of_log(text: &[u8]) -> bool {
+    text.windows(14)
+        .any(|part| part == b") Received Acc".as_slice())
+        || text
+            .windows(18)
+            .any(|part| part == b"FreeRADIUS Version".as_slice())
 }
 
 // What to do about a file that has no request's lines, where it is told by its beginning or by this line.
 fn other_kind(text: &[u8], rest: &str) -> Option<&'static str> {
     if let Some(kind) = file_kind(text) {
         Some(kind.advice())
-    } else if is_of_log(rest) || is_of_detail(text, rest) {
+    } else if is_of_log(text) || is_of_detail(text, rest) {
         Some(
             "a detail file or a server's log is read by radpolicy-replay, and by radpolicy-walk and \
             radpolicy-page with --record",
@@ -144,8 +145,8 @@ fn push_remedy(help: &mut Vec<u8>, kind: LineKind, name: &str) -> Result<(), All
         LineKind::SecondPacket => push_all(
             help,
             &[
-                "a blank line ended the request, and another one begins\ntake the blank line out, or \
-            give each request a file of its own\n",
+                "a blank line ended the request, and another one begins\ngive each a file of its own; \
+                radpolicy-replay reads them all, and radpolicy-walk the second with --record 2\n",
             ],
         ),
         LineKind::TooMany => push_all(help, &["a request has at most 4096 attributes\n"]),

@@ -5,6 +5,7 @@ use crate::contexts::{Context, Expected, is_code};
 use crate::found::Found;
 use crate::names::{is_near_secret, push_own_line, push_unknown_attribute};
 use crate::nearest::nearest_of;
+use crate::policies::OTHER_LISTS;
 use crate::policy_tokens::{text_of, token_of};
 use crate::sources::Sources;
 use crate::texts::{push_all, push_choices};
@@ -98,10 +99,7 @@ fn push_unknown_hint(
         || name.starts_with("proxy-")
         || name.starts_with("session-state")
     {
-        return push_all(
-            help,
-            &["of the server's lists there are request, reply and control\n"],
-        );
+        return push_all(help, &[OTHER_LISTS]);
     }
     if let Some((list, attribute)) = list_and_dot(name) {
         return push_all(

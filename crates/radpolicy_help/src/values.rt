@@ -1,6 +1,6 @@
 //! What is said of a value that is none.
 
-use crate::names::{push_own_line, shown_values, value_names};
+use crate::names::{path_with_value, push_own_line, push_unread_line, shown_values, value_names};
 use crate::sources::Sources;
 use crate::texts::{push_all, push_choices};
 use avp_dict::{Dictionary, Form, Kind};
@@ -81,8 +81,8 @@ pub(crate) fn tag_hint(profile: Profile) -> &'static str {
         Profile::Wider =>
             "a tag is a number up to 31, after the name of an attribute that has tags\n",
         Profile::Plain => {
-            "write # profile: wider as the first line of this file, or write the name without its tag, and 0x, \
-            the tag and the number as the value\n"
+            "write # profile: wider as the first line of this file, or write the name without its tag, and as \
+            the value 0x, the two digits of the tag and those of each octet of the value\n"
         }
     }
 }
@@ -231,6 +231,9 @@ pub(crate) fn push_not_value(
         push_all(help, &["a module of the server may define it: "])?;
         push_own_line(help, sources, &["VALUE Auth-Type ", value, " 3000"])?;
         return push_values(alloc, help, sources, name, value, "or write ");
+    }
+    if let Some(path) = path_with_value(alloc, sources, name, value)? {
+        return push_unread_line(help, sources.dictionaries, path, "VALUE");
     }
     push_values(alloc, help, sources, name, value, "write ")
 }

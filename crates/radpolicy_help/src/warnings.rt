@@ -5,7 +5,7 @@ ghost use Rattle.radpolicy_common.specs.VisibleText.{all_visible};
 ghost use Rattle.radpolicy_common.specs.declared.terminals.LineBreaks.TheVariants.{Kept};
 
 use crate::allowances::{Allowance, allowances, unread_profile};
-use crate::groupings::{regrouped, slashed};
+use crate::groupings::{regrouped, slashed, unexpanded};
 use crate::sources::Sources;
 use crate::texts::{push_all, push_number};
 use crate::watching::Watcher;
@@ -44,7 +44,7 @@ const ABSENT_COMPARISON: Advice = Advice {
     name: "absent-comparison",
     found: "a comparison with an attribute that may be absent",
     server: "where it is absent a server takes the whole condition as false, and here the rest goes on",
-    hint: "ask for the attribute first, as in &Name && &Name != 1",
+    hint: "ask for the attribute first, as in &Name && &Name != 1, before a ! too, as in &Name && !(&Name == 1)",
 };
 
 const GROUPING: Advice = Advice {
@@ -59,6 +59,13 @@ const SLASHED_TEXT: Advice = Advice {
     found: "a text without quotes that begins with a slash",
     server: "a server takes it for a regular expression, and refuses the policy; here it is a text",
     hint: "write =~ to search for a regular expression, or put the text into quotes",
+};
+
+const UNEXPANDED_TEXT: Advice = Advice {
+    name: "unexpanded-text",
+    found: "an expansion in a text between single quotes",
+    server: "it stays as it is written, on a server too",
+    hint: "write double quotes to have it expanded",
 };
 
 const EMPTY_UPDATE: Advice = Advice {
@@ -248,6 +255,7 @@ fn all_findings(
     )?;
     add_places(&mut found, text, &regrouped(alloc, text)?, GROUPING)?;
     add_places(&mut found, text, &slashed(alloc, text)?, SLASHED_TEXT)?;
+    add_places(&mut found, text, &unexpanded(alloc, text)?, UNEXPANDED_TEXT)?;
     Watcher::new(alloc, dictionary)?.add_block(&mut found, statements)?;
     found.sort_by_key(|finding| finding.line)?;
     Ok(found)
