@@ -30,12 +30,12 @@ use crate::expected::{DIFFERENT, expected_status, open_expected};
 use crate::places::{FileLine, refuse_in, shown};
 use crate::secrets::{HeldSecrets, held_secrets, read_secret};
 use crate::streams::{Early, flush, refuse_input, write_text};
-use crate::summaries::{Ended, show_summary};
+use crate::summaries::{Ended, is_all_refused, show_summary};
 use crate::to_hex::packets_plan;
 use crate::traffic::{Traffic, read_beginning, record_reader};
 use avp_dict::{Dictionary, FileSet};
 use avp_lists::{AttrId, Octets};
-use radpolicy::{Fault, PreparedPolicy};
+use radpolicy::{Fault, PreparedPolicy, status};
 use radpolicy_common::{
     Hiding, Redaction, Unread, command_words, dictionaries_meant, lent_paths, named_attributes,
     read_dictionary_set, read_file, refuse_early, show_help,
@@ -84,8 +84,14 @@ fn read_files<'a>(rt: &HostRuntime, plan: &Plan<'a>) -> Result<Files, Unread<'a>
     })
 }
 
-fn status_of(strict: bool, summary: &Summary) -> u8 {
-    if summary.different > 0 || strict && summary.refused > 0 {
+// The status of a replay that came to its end.
+fn status_of(plan: &Plan<'_>, summary: &Summary) -> u8 {
+    if plan.server.is_some() && summary.read == 0 {
+        status(&Fault::OptionValue)
+    } else if summary.different > 0
+        || plan.strict && summary.refused > 0
+        || is_all_refused(summary)
+    {
         DIFFERENT
     } else {
         0
@@ -211,7 +217,7 @@ fn replay_to<W: Write>(
 ) -> u8 {
     match run_laid_out(rt, plan, replay, out) {
         Ok(ended) => match show_summary(rt, plan, texts, &ended) {
-            Ok(()) => status_of(plan.strict, &ended.summary),
+            Ok(()) => status_of(plan, &ended.summary),
             Err(_) => refuse_early(rt, PROGRAM, &Fault::Memory),
         },
         Err(early) => refuse_input(rt, early),

@@ -18,6 +18,11 @@ pub struct Ended {
     pub rate: Option<u64>,
 }
 
+/// Whether records were taken, and each of them was refused.
+pub fn is_all_refused(summary: &Summary) -> bool {
+    summary.refused > 0 && summary.refused.saturating_add(summary.left_out) >= summary.read
+}
+
 // How many records were not asked for, where only some were.
 fn left_out_shown(alloc: Global, plan: &Plan<'_>, summary: &Summary) -> Result<String, AllocError> {
     let left_out = summary.left_out;
@@ -100,6 +105,9 @@ pub fn show_summary(
         return Ok(());
     }
     show_kinds(rt, plan, &ended.summary)?;
+    if plan.comparison.is_some() && is_all_refused(&ended.summary) {
+        let _ = eprintln!(rt; "every record is refused: --all tells why");
+    }
     show_differences(rt, &ended.summary)?;
     show_lines(rt, plan, texts, &ended.summary)?;
     if ended.is_unchecked {
