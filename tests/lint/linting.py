@@ -45,7 +45,7 @@ def first_fault_differs(subject: Subject, folder: Path) -> List[str]:
     dictionaries = sorted(map(str, (subject.root / "dictionaries").glob("dictionary*")))
     words = ["--policy", "policy", *dictionaries]
     status, _, errors = ended(subject.program, folder, ["check", *words])
-    own, output, _ = ended(subject.driver("radpolicy_lint"), folder, ["--format", "gcc", *words])
+    own, output, _ = ended(subject.driver("radpolicy_lint"), folder, words)
     fault = FAULT.fullmatch(errors)
     if not fault:
         return [] if (status, own) == (0, 0) and b": error: " not in output else [f"{status}, {own}, {output!r}"]
