@@ -18,7 +18,7 @@ use crate::reports::{
     OthersReport, REFUSED, refuse_value, show_fault, show_initial_fault, show_initial_line,
     show_others, show_report,
 };
-use crate::sections::lack_text;
+use crate::sections::{lack_text, lacking_word};
 use crate::sources::{
     FIRST, Given, NamedFiles, first_file, main_file, name_files, read_given, system_dictionaries,
     with_main, with_names,
@@ -172,7 +172,7 @@ fn imported(
 }
 
 fn refuse_section(rt: &HostRuntime, plan: &Plan<'_>, configuration: &Configuration) -> u8 {
-    let word = plan.policy.or(plan.section).unwrap_or("authorize");
+    let word = lacking_word(configuration, plan, wanted(plan));
     let lack = lack_text(rt.alloc(), configuration, plan, wanted(plan));
     refuse_at(rt, PROGRAM, &Fault::OptionValue, word.as_bytes(), lack)
 }

@@ -43,17 +43,22 @@ fn names_in<'a>(
     Ok(names)
 }
 
-// What is beside the names of the sections in one, or at the top, whose names end so.
+// Whether a section has this name, or where it begins with a dash one that ends so.
+fn is_called(name: &[u8], wanted: &[u8]) -> bool {
+    name == wanted || wanted.starts_with(b"-") && name.ends_with(wanted)
+}
+
+// What is beside the names of the sections in one, or at the top, that are called so.
 fn second_names_in<'a>(
     alloc: Global,
     configuration: &'a Configuration,
     outer: Option<usize>,
-    end: &[u8],
+    wanted: &[u8],
 ) -> Result<Vec<&'a [u8]>, AllocError> {
     let mut names = Vec::new(alloc);
     for item in &configuration.items {
         if let Some((name, [second, ..])) = section_in(item, outer)
-            && name.ends_with(end)
+            && is_called(name, wanted)
         {
             push_once(&mut names, second.octets.as_slice())?;
         }
@@ -163,6 +168,19 @@ fn lack_of_section<'a>(
             )
         }
         (server, _) => lack_in(alloc, configuration, server, wanted),
+    }
+}
+
+/// The word of a plan that names what is not there: its policy, its virtual server, or its section.
+pub fn lacking_word<'a>(
+    configuration: &Configuration,
+    plan: &Plan<'a>,
+    wanted: Wanted<'_>,
+) -> &'a str {
+    match (plan.policy, plan.server) {
+        (Some(name), _) => name,
+        (None, Some(name)) if server_of(configuration, wanted).is_none() => name,
+        _ => plan.section.unwrap_or("authorize"),
     }
 }
 
