@@ -29,25 +29,25 @@ IsOfPacket prepared secret text start = (octets : List ℕ) × (hex_octets text 
 -- over the lines of a text, in the forms of the wider profile
 abbrev pub IsOfLines : Prepared → Option (List ℕ) → RequestHead → Option ℤ → List ℕ → Start
     → Type 0
-IsOfLines prepared secret head zone text start =
-    (request_written Wider zone text prepared.dictionary ≡ Some start.request.list)
+IsOfLines prepared secret head offset text start =
+    (request_written Wider offset text prepared.dictionary ≡ Some start.request.list)
     × (start ≡ start_with prepared secret head start.request.list)
 
 -- over a request that is given in this form, with empty reply and control lists: a packet, where there is a secret
 abbrev pub IsOfRequest : Form → Prepared → Option (List ℕ) → RequestHead → Option ℤ → List ℕ
     → Start → Type 0
-IsOfRequest form.Hex prepared (Some secret) head zone text start =
+IsOfRequest form.Hex prepared (Some secret) head offset text start =
     IsOfPacket prepared secret text start
-IsOfRequest _ prepared secret head zone text start =
-    IsOfLines prepared secret head zone text start
+IsOfRequest _ prepared secret head offset text start =
+    IsOfLines prepared secret head offset text start
 
 -- ---- lists
 
 -- the list that a file's lines are; the empty one where there is no file
 abbrev pub IsListIn : Dictionary → Option ℤ → Option (List ℕ) → List Pair → Type 0
-IsListIn dictionary zone None pairs = pairs ≡ []
-IsListIn dictionary zone (Some lines) pairs =
-    request_written Wider zone lines dictionary ≡ Some pairs
+IsListIn dictionary offset None pairs = pairs ≡ []
+IsListIn dictionary offset (Some lines) pairs =
+    request_written Wider offset lines dictionary ≡ Some pairs
 
 -- ---- the start
 
