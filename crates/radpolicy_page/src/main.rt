@@ -99,9 +99,19 @@ fn show_by_meant<'a>(rt: &HostRuntime, words: &'a [String], paths: &'a [String])
     };
     match read_words(rt.alloc(), words) {
         Ok(plan) => {
-            let mut meant = plan;
-            meant.start.dictionaries = lent;
-            show_plan(rt, meant)
+            let Plan {
+                start,
+                output,
+                is_forced,
+            } = plan;
+            let mut meant = start;
+            meant.dictionaries = lent;
+            let plan = Plan {
+                start: meant,
+                output,
+                is_forced,
+            };
+            show_plan(rt, plan)
         }
         // The words were read before, so only memory is wanting.
         Err(_) => refuse_early(rt, PROGRAM, &Fault::Memory),

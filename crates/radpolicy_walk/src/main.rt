@@ -146,9 +146,14 @@ fn walk_by_meant<'a>(rt: &HostRuntime, words: &'a [String], paths: &'a [String])
     };
     match read_words(rt.alloc(), words) {
         Ok(plan) => {
-            let mut meant = plan;
-            meant.start.dictionaries = lent;
-            walk_plan(rt, meant)
+            let Plan { start, script } = plan;
+            let mut meant = start;
+            meant.dictionaries = lent;
+            let plan = Plan {
+                start: meant,
+                script,
+            };
+            walk_plan(rt, plan)
         }
         // The words were read before, so only memory is wanting.
         Err(_) => refuse_early(rt, PROGRAM, &Fault::Memory),
