@@ -30,7 +30,7 @@ use crate::expected::{DIFFERENT, expected_status, open_expected};
 use crate::places::{FileLine, refuse_in, shown};
 use crate::secrets::{HeldSecrets, held_secrets, read_secret};
 use crate::streams::{Early, flush, refuse_input, write_text};
-use crate::summaries::{Ended, is_all_refused, show_summary};
+use crate::summaries::{Ended, is_nothing_compared, show_summary};
 use crate::to_hex::packets_plan;
 use crate::traffic::{Traffic, read_beginning, record_reader};
 use avp_dict::{Dictionary, FileSet};
@@ -90,7 +90,7 @@ fn status_of(plan: &Plan<'_>, summary: &Summary) -> u8 {
         status(&Fault::OptionValue)
     } else if summary.different > 0
         || plan.strict && summary.refused > 0
-        || is_all_refused(summary)
+        || is_nothing_compared(plan, summary)
     {
         DIFFERENT
     } else {

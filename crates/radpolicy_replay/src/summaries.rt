@@ -18,9 +18,11 @@ pub struct Ended {
     pub rate: Option<u64>,
 }
 
-/// Whether records were taken, and each of them was refused.
-pub fn is_all_refused(summary: &Summary) -> bool {
-    summary.refused > 0 && summary.refused.saturating_add(summary.left_out) >= summary.read
+/// Whether answers were to be compared, and each record that was taken was refused.
+pub fn is_nothing_compared(plan: &Plan<'_>, summary: &Summary) -> bool {
+    plan.comparison.is_some()
+        && summary.refused > 0
+        && summary.refused.saturating_add(summary.left_out) >= summary.read
 }
 
 // How many records were not asked for, where only some were.
@@ -105,7 +107,7 @@ pub fn show_summary(
         return Ok(());
     }
     show_kinds(rt, plan, &ended.summary)?;
-    if plan.comparison.is_some() && is_all_refused(&ended.summary) {
+    if is_nothing_compared(plan, &ended.summary) {
         let _ = eprintln!(rt; "every record is refused: --all tells why");
     }
     show_differences(rt, &ended.summary)?;
