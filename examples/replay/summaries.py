@@ -9,7 +9,7 @@ MEMBERS = ("records", "policy", "line", "text")
 # Names of records are told of a difference.
 FIRST = 3
 SUMMARY = re.compile(
-    r"(\d+ [a-z]+(?:, \d+ [a-z ]+)*\n)(?:  \d+ records: .*\n)*((?:  \d+ by .*\n)*)(no secret: .*\n)?"
+    r"(\d+ [a-z]+(?:, \d+ [a-z ]+)*\n)(?:every record is refused: .*\n)?(?:  \d+ records: .*\n)*((?:  \d+ by .*\n)*)(no secret: .*\n)?"
     r"(?:\d+ records a second\n)?"
 )
 

@@ -1,10 +1,11 @@
 """Records over all processors by GNU parallel, and over a cluster by dask, where they are installed."""
+import json
 import shutil
 import socket
 import subprocess
 from contextlib import contextmanager
 from pathlib import Path
-from typing import Iterator, List, Sequence
+from typing import Dict, Iterator, List, Sequence
 
 from common.program import Ended
 from common.report import Report
@@ -72,6 +73,18 @@ def wrong_errors(errors: bytes, wanted: bytes) -> List[str]:
     return [] if is_right else [f"{errors!r}, not {wanted!r}"]
 
 
+def counts_in(errors: bytes) -> List[Dict[str, object]]:
+    """The counts in what a replay says as JSON, but for its differences: of these a block has its own first 1,000."""
+    lines = [line for line in errors.splitlines() if line.startswith(b"{")]
+    return [{name: value for name, value in json.loads(line).items() if name != "differences"} for line in lines]
+
+
+def wrong_counts(errors: bytes, wanted: bytes) -> List[str]:
+    """What is wrong unless the counts are the wanted ones, once."""
+    found, counts = counts_in(errors), counts_in(wanted)
+    return [] if len(found) == 1 and found == counts else [f"{found}, not {counts}"]
+
+
 def spread(place: Place, scheduler: str, files: Sequence[str], command: Sequence[object]) -> "subprocess.Popen[bytes]":
     script = place.subject.root / "examples/replay/spread.py"
     words = [PYTHON, script, scheduler, *files, "--", *command]
@@ -111,7 +124,7 @@ def check_dask(place: Place, whole: Ended, report: Report) -> None:
             with spread(place, scheduler, ["records"], place.command(JSON)) as process:
                 _, errors = process.communicate(timeout=SECONDS)
             wanted = place.replay((place.folder / "records").read_bytes(), JSON).errors
-            report.check("replay: by dask, as JSON", wrong_errors(errors, wanted))
+            report.check("replay: by dask, as JSON", wrong_counts(errors, wanted))
             check_death(place, scheduler, last, whole, report)
 
 
