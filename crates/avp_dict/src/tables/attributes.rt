@@ -1,4 +1,5 @@
-ghost use Rattle.std.specs.Prelude.{◌≡◌, ◌≤◌, ◌++◌, ◌∷◌, [], length, map, slice_get, All, IfOk, OnOk};
+ghost use Rattle.std.specs.HashSet.{contains};
+ghost use Rattle.std.specs.Prelude.{◌≡◌, ◌≤◌, ◌++◌, ◌∷◌, ◌||◌, [], length, map, slice_get, All, IfOk, OnOk};
 ghost use Rattle.std.specs.List.{list_any};
 ghost use Rattle.std.specs.Option.{option_and_then, option_copied, option_map};
 ghost use Rattle.std.specs.Set.{distinct_count};
@@ -8,14 +9,15 @@ ghost use Rattle.avp_dict.specs.Dictionary.{attribute_key, first_names, id_named
 ghost use Rattle.avp_dict.specs.Letters.{max_name};
 ghost use Rattle.avp_dict.specs.internal.Agreeing.{AreAloneNames, differs};
 ghost use Rattle.avp_dict.specs.internal.SecretIds.{AreSecretIds};
-ghost use Rattle.avp_dict.specs.internal.Tables.{IsLastAt};
+ghost use Rattle.avp_lists.specs.declared.pairs.AttrId.{AttrId};
+ghost use Rattle.avp_dict.specs.internal.Tables.{IsLastAt, id_key, same_id_key};
 
 use crate::entries::{AttributeLine, Typing};
 use crate::tables::keyed::{Keyed, KeyedLines};
 use crate::tables::keys::{FoldedName, IdKey, id_key};
 use avp_lists::AttrId;
-use indexmap::IndexSet;
 use std::alloc::{AllocError, Global};
+use std::collections::HashSet;
 use std::marker::Model;
 
 impl Keyed for AttributeLine {
@@ -45,7 +47,7 @@ impl Keyed for AttributeLine {
 pub struct Attributes {
     lines: KeyedLines<AttributeLine>,
     // Those of the lines that are marked as secret.
-    secret_ids: IndexSet<IdKey>,
+    secret_ids: HashSet<IdKey>,
 }
 
 // As a function, so that a proof which drops the lines sees one step and not those of the table.
@@ -62,6 +64,7 @@ impl Model for Attributes {
     ghost use Rattle.std.specs.Prelude.{List};
     ghost use Rattle.avp_dict.specs.declared.entries.AttributeLine.{AttributeLine};
     ghost use Rattle.avp_dict.specs.internal.SecretIds.{AreSecretIds};
+ghost use Rattle.avp_lists.specs.declared.pairs.AttrId.{AttrId};
 
     ghost Value = { List AttributeLine };
 
@@ -70,10 +73,20 @@ impl Model for Attributes {
     ghost invariant = { λ t. AreSecretIds t.secret_ids t.lines };
 }
 
+// One more id that is marked.
+#[tactic(auto, using(crate::proofs::LineTables::same_key))]
+fn add_id(secret_ids: &mut HashSet<IdKey>, id: AttrId) -> Result<(), AllocError>
+    ensures { OnOk result ((other : AttrId) → contains same_id_key secret_ids.new (id_key other)
+        ≡ (id_eq id other || contains same_id_key secret_ids.old (id_key other))) }
+{
+    secret_ids.insert(id_key(id))?;
+    Ok(())
+}
+
 // One more line. The answer is the place of the last line before it with its name.
 fn add_line(
     lines: &mut KeyedLines<AttributeLine>,
-    secret_ids: &mut IndexSet<IdKey>,
+    secret_ids: &mut HashSet<IdKey>,
     line: AttributeLine,
 ) -> Result<Option<usize>, AllocError>
     requires short { length line.name ≤ max_name }
@@ -83,7 +96,7 @@ fn add_line(
     ensures before { IfOk result (IsLastAt (is_attribute_named line.name) lines.old) }
 {
     if line.typing.secret {
-        secret_ids.insert(id_key(line.id))?;
+        add_id(secret_ids, line.id)?;
     }
     let before = lines.put(line)?;
     Ok(before)
@@ -105,7 +118,7 @@ impl Attributes {
     {
         Attributes {
             lines: KeyedLines::new(alloc),
-            secret_ids: IndexSet::new(alloc),
+            secret_ids: HashSet::new(alloc),
         }
     }
 
@@ -114,7 +127,7 @@ impl Attributes {
         ensures { IfOk result (λ attributes. attributes ≡ []) }
     {
         let lines = KeyedLines::with_capacity(alloc, lines)?;
-        let secret_ids = IndexSet::new(alloc);
+        let secret_ids = HashSet::new(alloc);
         Ok(Attributes { lines, secret_ids })
     }
 
