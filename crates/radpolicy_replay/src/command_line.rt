@@ -3,6 +3,7 @@
 ghost use Rattle.std.specs.Prelude.{IfErr};
 ghost use Rattle.radpolicy.specs.Faults.{IsWordFault};
 
+use crate::coverage_options::{CoveragePlan, coverage_plan, coverage_refusal, has_coverage};
 use crate::options::{
     AGAINST, ALL, CLIENTS, EXPECT, FORMAT, IGNORE, JSON, NO_SECRET, ONLY, ORDERED, SHOW,
     SHOW_REPLIES, STRICT, TAP, TO_HEX, program,
@@ -77,6 +78,7 @@ pub struct Plan<'a> {
     pub only: Option<u8>,
     /// An earlier output, with which this one is compared.
     pub expected: Option<&'a str>,
+    pub coverage: CoveragePlan<'a>,
     pub secret: SecretPlan<'a>,
     pub secrets: SecretValues,
     /// Attributes whose values are hidden besides.
@@ -256,6 +258,7 @@ fn plan_of<'a>(alloc: Global, found: &ArgMatches<'a>) -> Result<Plan<'a>, Fault>
         shown: words_in(alloc, found, SHOW)?,
         only: only_of(found)?,
         expected: found.get_str(EXPECT),
+        coverage: coverage_plan(found)?,
         secret: secret_plan(found)?,
         secrets: shown_secrets(found),
         hidden: words_in(alloc, found, HIDE)?,
@@ -293,6 +296,7 @@ fn has_replay(found: &ArgMatches<'_>) -> bool {
         || found.get_strs(SHOW).is_some()
         || found.get_str(ONLY).is_some()
         || has_comparison(found)
+        || has_coverage(found)
 }
 
 fn asked_of<'a>(alloc: Global, found: &ArgMatches<'a>) -> Result<Asked<'a>, Fault>
@@ -344,6 +348,8 @@ fn refusal_of(found: &ArgMatches<'_>) -> &'static str {
         "--format takes hex, records, detail, log, radclient or radsniff\n"
     } else if only_of(found).is_err() {
         "--only takes accept, reject, challenge or accounting\n"
+    } else if let Some(refusal) = coverage_refusal(found) {
+        refusal
     } else {
         "--zone takes what a zone is ahead of UTC, as +01:00\n"
     }

@@ -2,6 +2,7 @@
 
 use crate::command_line::{AgainstPlan, Plan};
 use crate::counted_lines::{CountedLine, PolicyTexts, counted_lines};
+use crate::coverage::push_coverage;
 use crate::equal_differences::{EqualDifference, equal_differences};
 use crate::summaries::Ended;
 use radpolicy_common::{LineBreaks, visible_text};
@@ -105,6 +106,8 @@ pub fn json_summary(
     text.extend_from_slice(b"],\"lines\":[")?;
     let lines = counted_lines(alloc, plan, texts, summary.lines.as_slice())?;
     push_lines(&mut text, &lines)?;
-    text.extend_from_slice(b"]}")?;
+    text.push(b']')?;
+    push_coverage(&mut text, summary)?;
+    text.push(b'}')?;
     Ok(text)
 }

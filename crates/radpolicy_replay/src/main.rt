@@ -5,6 +5,8 @@ mod client_help;
 mod command_line;
 mod counted_lines;
 mod counters;
+mod coverage;
+mod coverage_options;
 mod equal_differences;
 mod expected;
 mod json_summaries;
@@ -26,6 +28,7 @@ ghost use Rattle.radpolicy_replay.specs.Redactions.{statements_compared};
 use crate::command_line::{Asked, Plan, SecretPlan, help_text, read_words};
 use crate::counted_lines::PolicyTexts;
 use crate::counters::{CountedLines, CountedRecords, Counter};
+use crate::coverage::{covered_status, refused_file};
 use crate::expected::{DIFFERENT, expected_status, open_expected};
 use crate::places::{FileLine, refuse_in};
 use crate::secrets::{HeldSecrets, held_secrets, read_secret};
@@ -195,7 +198,10 @@ fn replay_to<W: Write>(
 ) -> u8 {
     match run_laid_out(rt, plan, replay, out) {
         Ok(ended) => match show_summary(rt, plan, texts, &ended) {
-            Ok(()) => status_of(plan.strict, &ended.summary),
+            Ok(()) => {
+                let status = status_of(plan.strict, &ended.summary);
+                covered_status(rt, plan, &ended.summary, status)
+            }
             Err(_) => refuse_early(rt, PROGRAM, &Fault::Memory),
         },
         Err(early) => refuse_input(rt, early),
@@ -407,6 +413,7 @@ fn replay_by(
         },
         only: plan.only,
         layout: plan.layout,
+        covers: plan.coverage.is_wanted(),
     };
     let texts = PolicyTexts {
         new: files.policy.as_slice(),
@@ -488,6 +495,9 @@ fn replay_plan(rt: &HostRuntime, plan: &Plan<'_>) -> u8 {
         Ok(earlier) => earlier,
         Err(unread) => return refuse_unread_explained(rt, PROGRAM, unread),
     };
+    if let Some(status) = refused_file(rt, plan) {
+        return status;
+    }
     let mut reading = Reading::New;
     match replay_by(rt, plan, &files, earlier, &mut reading) {
         Ok(status) => status,

@@ -1,5 +1,6 @@
 //! The options of the command line.
 
+use crate::coverage_options::with_coverage_options;
 use clap::{Arg, ArgAction};
 use radpolicy_options::{
     POLICY, SECRET, SHOW_SECRETS, dictionary_files, folder_option, hide_option, server_option,
@@ -186,7 +187,7 @@ fn show_secrets_option<'a>(alloc: Global) -> Arg<'a> {
 
 /// The program's words.
 pub fn program<'a>(alloc: Global) -> Result<clap::Command<'a>, AllocError> {
-    clap::Command::new(alloc, "radpolicy-replay")
+    let command = clap::Command::new(alloc, "radpolicy-replay")
         .bin_name("radpolicy-replay")?
         .about(
             "Answers recorded requests by a policy, and tells what it answers otherwise than another",
@@ -205,7 +206,8 @@ pub fn program<'a>(alloc: Global) -> Result<clap::Command<'a>, AllocError> {
         .arg(show_option(alloc))?
         .arg(only_option(alloc))?
         .arg(strict_option(alloc))?
-        .arg(expect_option(alloc))?
+        .arg(expect_option(alloc))?;
+    with_coverage_options(alloc, command)?
         .arg(tap_option(alloc))?
         .arg(json_option(alloc))?
         .arg(to_hex_option(alloc))?

@@ -134,8 +134,8 @@ line_counted_within replay summary line within =
       | false ↦ within
     ]
 
-pub none_within : CountsWithin no_records
-none_within = (
+pub none_within : (replay : Replay) → CountsWithin (no_records replay)
+none_within replay = (
   (omega arith, omega arith, omega arith, omega arith, omega arith, omega arith, All-nil (λ (count : LineCount). count.records ≤ 0)),
   All-nil (λ (count : DifferenceCount). count.records ≤ 0),
 )
@@ -309,15 +309,15 @@ octets_reason replay start now octets before rest end later held a b TooManyReco
 
 -- ---- block after block
 
-pub come_start : (replay : Replay) (summary : Summary) (line : List ℕ) (known out : Option (List ℕ)) → summary ≡ no_records → line ≡ [] → HasCome replay known known summary line out out
+pub come_start : (replay : Replay) (summary : Summary) (line : List ℕ) (known out : Option (List ℕ)) → summary ≡ no_records replay → line ≡ [] → HasCome replay known known summary line out out
 come_start replay summary line None out none empty = tt
 come_start replay summary line (Some all) out none empty = (
   [],
   all,
   refl,
   refl,
-  subst (λ (s : Summary). Writes replay no_records [] s line out out) (sym none)
-      (subst (λ (l : List ℕ). Writes replay no_records [] no_records l out out) (sym empty) (start_of_writes replay no_records [] out)),
+  subst (λ (s : Summary). Writes replay (no_records replay) [] s line out out) (sym none)
+      (subst (λ (l : List ℕ). Writes replay (no_records replay) [] (no_records replay) l out out) (sym empty) (start_of_writes replay (no_records replay) [] out)),
 )
 
 -- what is told of a block is told of it whatever follows
@@ -340,11 +340,11 @@ read_more : (all read rest block left : List ℕ) → all ≡ read ++ rest → r
 read_more all read rest block left parts further =
     parts ∙ ap (λ l. read ++ l) further ∙ sym (append_assoc read block left)
 
-block_told : (replay : Replay) (now after : Summary) (read line block held : List ℕ) (old new put out : Option (List ℕ)) → Writes replay no_records read now line old new → Writes replay now (line ++ block) after held new put → Keeps put out → Writes replay no_records (read ++ block) after held old out
+block_told : (replay : Replay) (now after : Summary) (read line block held : List ℕ) (old new put out : Option (List ℕ)) → Writes replay (no_records replay) read now line old new → Writes replay now (line ++ block) after held new put → Keeps put out → Writes replay (no_records replay) (read ++ block) after held old out
 block_told replay now after read line block held old new put out (before, appends, so_far) (written, puts, told) keeps = (
   before ++ written,
   Appends-kept old put out (before ++ written) (Appends-trans old new put before written appends puts) keeps,
-  joined replay no_records now after (read ++ block) (line ++ block) held before written (extended replay no_records now read line block before so_far) told,
+  joined replay (no_records replay) now after (read ++ block) (line ++ block) held before written (extended replay (no_records replay) now read line block before so_far) told,
 )
 
 pub come_further : (replay : Replay) (now after : Summary) (line block held : List ℕ) (known left later old new put out : Option (List ℕ)) → Consumes left later block → Writes replay now (line ++ block) after held new put → Keeps put out → HasCome replay known left now line old new → HasCome replay known later after held old out
@@ -367,7 +367,7 @@ come_past replay now line block (Some all) left later old new takes none (read, 
 
 -- ---- a replay that ends by a fault
 
-whole_front : (replay : Replay) (all read rest : List ℕ) (old out : Option (List ℕ)) → all ≡ read ++ rest → WritesFront replay no_records read old out → AppendsFront old out (replayed_text replay all)
+whole_front : (replay : Replay) (all read rest : List ℕ) (old out : Option (List ℕ)) → all ≡ read ++ rest → WritesFront replay (no_records replay) read old out → AppendsFront old out (replayed_text replay all)
 whole_front replay all read rest old out parts (front, appends, fronts) =
     (front, (fronts rest).0, ap (text_from replay 1) parts ∙ (fronts rest).1, appends)
 
@@ -376,7 +376,7 @@ pub come_front : (replay : Replay) (now : Summary) (line : List ℕ) (known left
 come_front replay now line None left old new out keeps come = tt
 come_front replay now line (Some all) left old new out keeps (read, rest, parts, same, (written, appends, so_far)) =
     whole_front replay all read rest old out parts
-    (front_of_writes replay no_records now read line old out (written, Appends-kept old new out written appends keeps, so_far))
+    (front_of_writes replay (no_records replay) now read line old out (written, Appends-kept old new out written appends keeps, so_far))
 
 -- a block that was told in part
 pub block_broken : (replay : Replay) (now : Summary) (line block : List ℕ) (known left later old new out : Option (List ℕ)) → Consumes left later block → WritesFront replay now (line ++ block) new out → HasCome replay known left now line old new → IfSome known (λ octets. AppendsFront old out (replayed_text replay octets))
@@ -384,7 +384,7 @@ block_broken replay now line block None left later old new out takes told come =
 block_broken replay now line block (Some all) left later old new out takes told (read, rest, parts, same, (written, appends, so_far)) =
     let further = left_after rest block later (subst (λ (l : Option (List ℕ)). Consumes l later block) same takes) in
     whole_front replay all (read ++ block) further.0 old out (read_more all read rest block further.0 parts further.2)
-    (front_after replay no_records now (read ++ block) (line ++ block) old new out (written, appends, extended replay no_records now read line block written so_far) told)
+    (front_after replay (no_records replay) now (read ++ block) (line ++ block) old new out (written, appends, extended replay (no_records replay) now read line block written so_far) told)
 
 -- all that was read was told
 pub input_reason : (replay : Replay) (now : Summary) (line : List ℕ) (known left later old new : Option (List ℕ)) → HasNoEnd line → Keeps left later → HasCome replay known left now line old new → IfSome known (λ octets. IsReason replay octets later old new Input)
@@ -400,10 +400,10 @@ input_reason replay now line (Some all) left later old new none keeps (read, res
       subst (Appends old new) (sym told) appends,
     )
 
-many_in_block : (replay : Replay) (now : Summary) (all read rest line block left written : List ℕ) → all ≡ (read ++ block) ++ left → Continues replay no_records read now line written → ((more : List ℕ) → 2 ^ 64 ≤ (summary_from replay now ((line ++ block) ++ more)).read) → 2 ^ 64 ≤ (summary_of replay all).read
+many_in_block : (replay : Replay) (now : Summary) (all read rest line block left written : List ℕ) → all ≡ (read ++ block) ++ left → Continues replay (no_records replay) read now line written → ((more : List ℕ) → 2 ^ 64 ≤ (summary_from replay now ((line ++ block) ++ more)).read) → 2 ^ 64 ≤ (summary_of replay all).read
 many_in_block replay now all read rest line block left written parts so_far many =
     let counts : summary_of replay all ≡ summary_from replay now ((line ++ block) ++ left) =
-    ap (summary_from replay no_records) (parts ∙ append_assoc read block left) ∙ so_far.summary_same (block ++ left)
+    ap (summary_from replay (no_records replay)) (parts ∙ append_assoc read block left) ∙ so_far.summary_same (block ++ left)
     ∙ ap (summary_from replay now) (sym (append_assoc line block left)) in
     subst (λ (s : Summary). 2 ^ 64 ≤ s.read) (sym counts) (many left)
 
@@ -442,11 +442,11 @@ module _ (replay : Replay) (now : Summary) (line : List ℕ) (none : HasNoEnd li
   all_read : (all read rest : List ℕ) → all ≡ read ++ rest → rest ≡ [] → all ≡ read ++ []
   all_read all read rest parts ends = parts ∙ ap (λ l. read ++ l) ends
 
-  at_end : (all read : List ℕ) (written : List ℕ) → all ≡ read ++ [] → Continues replay no_records read now line written → (replayed_text replay all ≡ written ++ line_text replay now line) × (summary_of replay all ≡ line_counted replay now line)
+  at_end : (all read : List ℕ) (written : List ℕ) → all ≡ read ++ [] → Continues replay (no_records replay) read now line written → (replayed_text replay all ≡ written ++ line_text replay now line) × (summary_of replay all ≡ line_counted replay now line)
   at_end all read written ends so_far = (
     ap (text_from replay 1) ends ∙ so_far.text [] ∙ ap (λ l. written ++ text_from replay (now.read + 1) l) (append-nil line)
         ∙ ap (λ l. written ++ l) (last_text replay now line none whole),
-    ap (summary_from replay no_records) ends ∙ so_far.summary_same [] ∙ ap (summary_from replay now) (append-nil line)
+    ap (summary_from replay (no_records replay)) ends ∙ so_far.summary_same [] ∙ ap (summary_from replay now) (append-nil line)
         ∙ last_count replay now line none whole,
   )
 

@@ -67,7 +67,7 @@ module _ (replay : Replay) (offset : Option ℤ) where
 
   -- ---- one record after another
 
-  pub told_start : (summary : Summary) (known : Option (List Record)) (out : Option (List ℕ)) → summary ≡ no_records → HasTold replay offset known known summary out out
+  pub told_start : (summary : Summary) (known : Option (List Record)) (out : Option (List ℕ)) → summary ≡ no_records replay → HasTold replay offset known known summary out out
   told_start summary None out none = tt
   told_start summary (Some all) out none = ([], all, refl, refl, ([], (none, refl), Appends-nil out))
 
@@ -88,8 +88,8 @@ module _ (replay : Replay) (offset : Option ℤ) where
         one.2,
         (
           text ++ text_of before given entry,
-          subst (λ (s : Summary). IsTelling replay offset no_records (told ++ given ∷ []) s (text ++ text_of before given entry)) (sym counts)
-              (tells_more no_records before told given entry text telling says),
+          subst (λ (s : Summary). IsTelling replay offset (no_records replay) (told ++ given ∷ []) s (text ++ text_of before given entry)) (sym counts)
+              (tells_more (no_records replay) before told given entry text telling says),
           Appends-kept old put out (text ++ text_of before given entry) (Appends-trans old new put text (text_of before given entry) appends puts) keeps,
         ),
       )
@@ -118,7 +118,7 @@ module _ (replay : Replay) (offset : Option ℤ) where
         counts_with before given entry,
         text ++ text_of before given entry,
         parts_further all told rest one.0 given parts one.1,
-        tells_more no_records before told given entry text telling says,
+        tells_more (no_records replay) before told given entry text telling says,
         (
           text ++ front,
           more,
@@ -141,9 +141,9 @@ module _ (replay : Replay) (offset : Option ℤ) where
   no_reason fault (Some all) left old new (inl memory) = subst (λ (f : ReplayFault). IsRecordsReason replay offset all left old new f) (sym memory) tt
   no_reason fault (Some all) left old new (inr output) = subst (λ (f : ReplayFault). IsRecordsReason replay offset all left old new f) (sym output) tt
 
-  many_given : (before : Summary) (all told rest more : List Record) (given : Record) (text : List ℕ) → all ≡ told ++ rest → rest ≡ given ∷ more → IsTelling replay offset no_records told before text → 2 ^ 64 ≤ before.read + 1 → 2 ^ 64 ≤ length all
+  many_given : (before : Summary) (all told rest more : List Record) (given : Record) (text : List ℕ) → all ≡ told ++ rest → rest ≡ given ∷ more → IsTelling replay offset (no_records replay) told before text → 2 ^ 64 ≤ before.read + 1 → 2 ^ 64 ≤ length all
   many_given before all told rest more given text parts one telling many =
-      let count = told_count no_records before told text telling in
+      let count = told_count (no_records replay) before told text telling in
       let long : length all ≡ length (told ++ rest) = ap (λ (l : List Record). length l) parts in
       let sums = length-append told rest in
       let some : length rest ≡ length (given ∷ more) = ap (λ (l : List Record). length l) one in

@@ -1,3 +1,4 @@
+pub mod Coverings
 pub mod DifferenceCounts
 pub mod Headings
 pub mod JsonEntries

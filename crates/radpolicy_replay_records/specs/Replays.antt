@@ -3,6 +3,7 @@ use Rattle.std.specs.Prelude.{◌≡◌, ◌≤◌, ℕ, ◌+◌, ◌^◌, Bool,
 use Rattle.std.specs.Io.KnownBytes.{Appends, Consumes}
 use Rattle.std.specs.List.{enumerate_from, flat_map, fold}
 use Rattle.std.specs.Option.{option_and_then}
+use Rattle.avp_step.specs.Trace.{Entry as Step}
 use Rattle.radpolicy.specs.RunOutcomes.{RunOutcome}
 use Rattle.radpolicy_changing_lines.specs.declared.differences.PolicyLine.{PolicyLine}
 use Rattle.radpolicy_clients.specs.Clients.{secret_for}
@@ -11,6 +12,7 @@ use Rattle.radpolicy_record_answers.specs.Answers.{answer_shown}
 use Rattle.radpolicy_record_answers.specs.Captured.{replies_told, replies_with, verdict_of_replies}
 use Rattle.radpolicy_record_answers.specs.Differences.{answers_told, verdict_of_answers}
 use Rattle.radpolicy_record_answers.specs.Entries.{entry_of_line}
+use Rattle.radpolicy_replay_records.specs.Coverings.{covering, first_coverage, run_if}
 use Rattle.radpolicy_replay_records.specs.DifferenceCounts.{differences_with}
 use Rattle.radpolicy_replay_records.specs.Headings.{heading, name_of, request_member}
 use Rattle.radpolicy_replay_records.specs.JsonEntries.{answer_members, answers_members, has_line, json_line, line_if, replies_members}
@@ -221,6 +223,18 @@ unfoldable pub record_difference : Replay → List ℕ → List ℕ
 record_difference replay line =
     entry_difference replay (record_secret replay.shared line) (entry_of_line line)
 
+-- ---- the run that a coverage counts
+
+-- that of a record that says this, if it is taken and not refused: a record counts once, whatever it is compared with
+unfoldable pub entry_run : Replay → RecordSecret → Entry → Option (List Step)
+entry_run replay secret entry = run_if (entry_verdict replay secret entry)
+    (request_trace replay.policy.now secret entry.request)
+
+-- that of the record of a line
+unfoldable pub record_run : Replay → List ℕ → Option (List Step)
+record_run replay line =
+    entry_run replay (record_secret replay.shared line) (entry_of_line line)
+
 -- ---- all records
 
 -- what is written for records: a text for each, by itself and its number alone
@@ -260,18 +274,24 @@ abbrev pub summary_with : Summary → List ℕ → List ℕ → Summary
 summary_with summary name difference =
     record summary { differences = differences_with summary.differences name difference }
 
+-- the same, with the steps of the record's run, if it has one and they are counted
+abbrev pub summary_covering : Summary → Option (List Step) → Summary
+summary_covering summary run = record summary { coverage = covering summary.coverage run }
+
 abbrev pub entry_counted : Replay → Summary → RecordSecret → Entry → Summary
-entry_counted replay summary secret entry = summary_with
+entry_counted replay summary secret entry = summary_covering (summary_with
     (counted_with summary (entry_verdict replay secret entry) (entry_lines replay secret entry))
-    (name_of (summary.read + 1) entry) (entry_difference replay secret entry)
+    (name_of (summary.read + 1) entry) (entry_difference replay secret entry))
+    (entry_run replay secret entry)
 
 abbrev pub record_counted : Replay → Summary → List ℕ → Summary
-record_counted replay summary line = summary_with
+record_counted replay summary line = summary_covering (summary_with
     (counted_with summary (verdict_of replay line) (record_lines replay line))
-    (name_of (summary.read + 1) (entry_of_line line)) (record_difference replay line)
+    (name_of (summary.read + 1) (entry_of_line line)) (record_difference replay line))
+    (record_run replay line)
 
-abbrev pub no_records : Summary
-no_records = record {
+abbrev pub no_records : Replay → Summary
+no_records replay = record {
   read = 0;
   same = 0;
   different = 0;
@@ -281,6 +301,7 @@ no_records = record {
   left_out = 0;
   lines = [];
   differences = [];
+  coverage = first_coverage replay.covers replay.policy.now.statements;
 }
 
 -- the counts with those of the records of a text
@@ -289,7 +310,7 @@ summary_from replay summary text =
     fold (record_counted replay) summary (records_of text)
 
 abbrev pub summary_of : Replay → List ℕ → Summary
-summary_of replay text = summary_from replay no_records text
+summary_of replay text = summary_from replay (no_records replay) text
 
 -- ---- what was written where a replay ends before its input does
 

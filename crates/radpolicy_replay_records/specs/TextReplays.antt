@@ -61,14 +61,14 @@ IsTelling replay offset before (given ∷ records) after text = (entry : Entry) 
 abbrev pub IsReplayed : Replay → Option ℤ → List Record → Summary → Option (List ℕ)
     → Option (List ℕ) → Type 0
 IsReplayed replay offset records summary old new =
-    (text : List ℕ) × IsTelling replay offset no_records records summary text × Appends old new text
+    (text : List ℕ) × IsTelling replay offset (no_records replay) records summary text × Appends old new text
 
 -- they grow by a front of what is written for the first records
 abbrev pub IsReplayedFront : Replay → Option ℤ → List Record → Option (List ℕ)
     → Option (List ℕ) → Type 0
 IsReplayedFront replay offset records old new = (told rest : List Record) × (summary : Summary)
     × (text : List ℕ) × (records ≡ told ++ rest)
-    × IsTelling replay offset no_records told summary text × AppendsFront old new text
+    × IsTelling replay offset (no_records replay) told summary text × AppendsFront old new text
 
 -- The reason of a fault, where these records are left of those: where it is the input, all is written that is to be
 -- said of the records that were given; and too many records are 2^64 at least.

@@ -188,7 +188,7 @@ impl<'a> Replay<'a> {
     }
 
     /// Adds what is said of a record, and counts it.
-    #[tactic(auto, unfolding(crate::specs::Replays::entry_lines, crate::specs::Replays::entry_difference), using(crate::proofs::Counting::room_for_difference))]
+    #[tactic(auto, unfolding(crate::specs::Replays::entry_lines, crate::specs::Replays::entry_difference, crate::specs::Replays::entry_run), using(crate::proofs::Counting::room_for_difference))]
     pub(crate) fn push_counted<'b>(
         &'b self,
         text: &mut Vec<u8>,
@@ -214,6 +214,7 @@ impl<'a> Replay<'a> {
         let difference = self.entry_difference(alloc, runners, verdict, secret, entry)?;
         let name = name_of(alloc, number, entry)?;
         let counted = summary.counted_with(verdict, &lines)?;
-        counted.with_difference(&name, &difference)
+        let told = counted.with_difference(&name, &difference)?;
+        self.with_coverage(alloc, verdict, secret, entry, told)
     }
 }

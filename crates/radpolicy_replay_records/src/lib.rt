@@ -2,6 +2,7 @@
 //! answer to each.
 #![tactic(auto)]
 
+mod coverings;
 mod difference_counts;
 mod differences;
 mod entry_texts;

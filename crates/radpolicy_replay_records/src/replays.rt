@@ -86,6 +86,8 @@ pub struct Replay<'a> {
     /// The code of the captured replies whose records are taken; `None`: all are.
     pub only: Option<u8>,
     pub layout: Layout,
+    /// Whether it is counted what the policy's runs do on each of its lines, for which each is made once more.
+    pub covers: bool,
 }
 
 fn new_block(alloc: Global) -> Result<Vec<u8>, AllocError>
@@ -221,7 +223,7 @@ impl<'a> Replay<'a> {
     }
 
     // Writes what is to be said of a line.
-    #[tactic(auto, unfolding(crate::specs::Replays::record_text, crate::specs::Replays::verdict_of, crate::specs::Replays::record_lines, crate::specs::Replays::record_difference))]
+    #[tactic(auto, unfolding(crate::specs::Replays::record_text, crate::specs::Replays::verdict_of, crate::specs::Replays::record_lines, crate::specs::Replays::record_difference, crate::specs::Replays::record_run))]
     fn tell<W: Write>(
         &self,
         alloc: Global,
@@ -317,7 +319,8 @@ impl<'a> Replay<'a> {
         let mut block = new_block(alloc)?;
         let mut line = Vec::new(alloc);
         let mut runners = Runners::of(alloc, self);
-        let mut summary = Summary::new(alloc);
+        let before = Summary::of(alloc, self)?;
+        let mut summary = before;
         for _ in 0..u64::MAX {
             let count = read_block(input, &mut block)?;
             if count == 0 {
@@ -352,7 +355,8 @@ impl<'a> Replay<'a> {
             (W.contents out.new) fault)) }
     {
         let mut runners = Runners::of(alloc, self);
-        let mut summary = Summary::new(alloc);
+        let before = Summary::of(alloc, self)?;
+        let mut summary = before;
         for _ in 0..u64::MAX {
             let Some(record) = records.next_record()? else {
                 return Ok(summary);

@@ -5,9 +5,12 @@ ghost use Rattle.radpolicy_replay_records.specs.Replays.{counted, counted_with, 
 ghost use Rattle.radpolicy_replay_records.specs.declared.difference_counts.DifferenceCount.{DifferenceCount as Count};
 ghost use Rattle.radpolicy_replay_records.specs.internal.Positions.{KindsWithin};
 
+use crate::coverings::first_coverage;
 use crate::difference_counts::DifferenceCounts;
 use crate::line_counts::LineCounts;
+use crate::replays::Replay;
 use radpolicy_changing_lines::PolicyLine;
+use radpolicy_coverage::Coverage;
 use radpolicy_record_answers::Verdict;
 use std::alloc::{AllocError, Global};
 
@@ -25,13 +28,16 @@ pub struct Summary {
     pub lines: LineCounts,
     /// How many have each difference.
     pub differences: DifferenceCounts,
+    /// What the runs of those that are answered did on each line of the policy; `None` where that is not asked for.
+    pub coverage: Option<Coverage>,
 }
 
 impl Summary {
-    pub(crate) fn new(alloc: Global) -> Summary
-        ensures { result ≡ no_records }
+    /// Before any record of a replay.
+    pub(crate) fn of(alloc: Global, replay: &Replay<'_>) -> Result<Summary, AllocError>
+        ensures { IfOk result (λ summary. summary ≡ no_records replay.now) }
     {
-        Summary {
+        Ok(Summary {
             read: 0,
             same: 0,
             different: 0,
@@ -41,7 +47,8 @@ impl Summary {
             left_out: 0,
             lines: LineCounts::new(alloc),
             differences: DifferenceCounts::new(alloc),
-        }
+            coverage: first_coverage(alloc, replay)?,
+        })
     }
 
     // The same with one record more.
@@ -50,6 +57,7 @@ impl Summary {
         requires within { KindsWithin self }
         ensures counts { result ≡ counted self verdict }
         ensures kept { result.differences ≡ self.differences }
+        ensures covered { result.coverage ≡ self.coverage }
     {
         let read = self.read + 1;
         match verdict {
@@ -98,6 +106,7 @@ impl Summary {
         requires within { KindsWithin self }
         ensures counts { IfOk result (λ after. after ≡ counted_with self verdict lines.now) }
         ensures kept { IfOk result (λ after. after.differences ≡ self.differences) }
+        ensures covered { IfOk result (λ after. after.coverage ≡ self.coverage) }
     {
         if lines.len() < 1 {
             return Ok(self.counted(verdict));

@@ -85,4 +85,4 @@ abbrev pub HasCome : Replay → Option (List ℕ) → Option (List ℕ) → Summ
 HasCome replay None left summary line old new = ⊤
 HasCome replay (Some all) left summary line old new = (read rest : List ℕ)
     × (all ≡ read ++ rest) × (left ≡ Some rest)
-    × Writes replay no_records read summary line old new
+    × Writes replay (no_records replay) read summary line old new

@@ -44,6 +44,7 @@ pub(crate) fn replay_by<'a>(
         },
         only: None,
         layout: Layout::Plain,
+        covers: false,
     }
 }
 

@@ -20,8 +20,8 @@ loop-init g c = record {
   room = search rules;
   no_end = subst HasNoEnd (sym c.new-line.ensures.items) (All-nil NoEnd);
   short = rw c.new-line.ensures.items (omega arith);
-  within = subst CountsWithin (sym c.new-summary.ensures) none_within;
-  come = come_start c.args.self.now c.new-summary.result c.new-line.result.items (g.R.Read.remaining c.args.input.now) (g.W.Write.contents c.args.out.now) c.new-summary.ensures c.new-line.ensures.items;
+  within = subst CountsWithin (sym c.in_ok-before.ensures) (none_within c.args.self.now);
+  come = come_start c.args.self.now c.in_ok-before.before c.new-line.result.items (g.R.Read.remaining c.args.input.now) (g.W.Write.contents c.args.out.now) c.in_ok-before.ensures c.new-line.ensures.items;
 }
 
 pub returns-then-count-eq0-clause-text : goal.returns-then-count-eq0-clause-text

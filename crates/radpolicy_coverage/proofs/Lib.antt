@@ -1,0 +1,5 @@
+pub mod Adding
+pub mod LinesLeft
+pub mod PlacesPushed
+pub mod Results
+pub mod Tallying
