@@ -5,7 +5,8 @@ _radpolicy_replay() {
     COMPREPLY=()
     if [[ $word == -* ]]; then
         COMPREPLY=($(compgen -W '--policy --against --ordered --ignore --all --show-replies --show --only --strict
-            --expect --tap --json --to-hex -S --clients --no-secret --format --server --zone --hide --show-secrets -D --help' -- "$word"))
+            --expect --coverage --min-coverage --min-branches --verbose --force --tap --json --to-hex -S --clients --no-secret
+            --format --server --zone --hide --show-secrets -D --help' -- "$word"))
     else
         # bash takes the `=` of an option for a word of its own.
         [[ $word == = ]] && word=
