@@ -1,4 +1,5 @@
 pub mod Adding
+pub mod CountedRuns
 pub mod LinesLeft
 pub mod PlacesPushed
 pub mod Results

@@ -1,5 +1,5 @@
 -- The coverage of a policy by runs: what stands on each line, and what the steps of the runs did there.
-use Rattle.std.specs.Prelude.{◌≡◌, ℕ, ◌+◌, max, List, [], ◌∷◌, ◌++◌, map, Option, None, Some, replicate}
+use Rattle.std.specs.Prelude.{ℕ, ◌+◌, nat_lt, if◌then◌else◌, List, [], ◌∷◌, map, Option, None, Some, replicate}
 use Rattle.std.specs.List.{flat_map}
 use Rattle.avp_step.specs.Trace.{Entry}
 use Rattle.avp_step.specs.declared.labels.Label.{Label}
@@ -19,10 +19,16 @@ abbrev pub number_after : Option ℕ → ℕ
 number_after None = 0
 number_after (Some n) = n + 1
 
--- how many lines there are from line 0 to the last of these places
+abbrev pub larger : ℕ → ℕ → ℕ
+larger m n = if nat_lt m n then n else m
+
+-- how many lines there are from line 0 to the last of these places, and so many at least
+abbrev pub lines_from_to : ℕ → List Label → ℕ
+lines_from_to lines [] = lines
+lines_from_to lines (l ∷ ls) = lines_from_to (larger lines (number_after (line_of l))) ls
+
 abbrev pub lines_to : List Label → ℕ
-lines_to [] = 0
-lines_to (l ∷ ls) = max (number_after (line_of l)) (lines_to ls)
+lines_to places = lines_from_to 0 places
 
 abbrev pub untouched : List Label → List Tally
 untouched places = replicate (lines_to places) no_steps

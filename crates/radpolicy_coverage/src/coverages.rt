@@ -1,12 +1,11 @@
 //! The coverage of a policy by its runs.
 
-ghost use Rattle.std.specs.Prelude.{◌≡◌, ◌++◌, ◌∷◌, [], IfOk, List, OnOk, replicate};
+ghost use Rattle.std.specs.Prelude.{◌≡◌, ◌++◌, ◌∷◌, [], IfOk, List, OnOk};
 ghost use Rattle.avp_step.specs.Trace.{Entry};
 ghost use Rattle.avp_unlang.specs.declared.tree.Statement.{Statement as Policies};
 ghost use Rattle.radpolicy_coverage.specs.CoveredLines.{lines_from};
-ghost use Rattle.radpolicy_coverage.specs.Coverages.{both, covered, labels_of, lines_to, no_runs, none_covered, number_after, untouched, with_run};
-ghost use Rattle.radpolicy_coverage.specs.Places.{places_of};
-ghost use Rattle.radpolicy_coverage.specs.Tallies.{line_of, no_steps, sums, with_steps};
+ghost use Rattle.radpolicy_coverage.specs.Coverages.{both, covered, labels_of, larger, lines_to, no_runs, none_covered, number_after, untouched, with_run};
+ghost use Rattle.radpolicy_coverage.specs.Tallies.{line_of, with_steps};
 
 use crate::covered_lines::{CoveredLine, lines_of};
 use crate::places::push_block;
@@ -43,13 +42,19 @@ fn number_after(place: Label) -> Result<usize, AllocError>
     }
 }
 
+fn larger(count: usize, other: usize) -> usize
+    ensures { result ≡ larger count other }
+{
+    if count < other { other } else { count }
+}
+
 // How many lines there are from line 0 to the last of these places.
 fn lines_to(places: &[Label]) -> Result<usize, AllocError>
     ensures { IfOk result (λ lines. lines ≡ lines_to places.now) }
 {
     let mut lines = 0;
     for place in places {
-        lines = number_after(*place)?.max(lines);
+        lines = larger(lines, number_after(*place)?);
     }
     Ok(lines)
 }

@@ -147,7 +147,7 @@ fn show_taken_back(
     for line in lines {
         let (number, times) = (line.line, line.runs.taken_back);
         if times > 0 {
-            let _ = eprintln!(rt; "  taken back {times} times: {path}:{number}");
+            let _ = eprintln!(rt; "  taken back: {path}:{number} ({times})");
         }
     }
     Ok(())

@@ -1,10 +1,10 @@
 //! The coverage of the policy by the records of a replay.
 
-ghost use Rattle.std.specs.Prelude.{◌≡◌, IfOk, Option};
+ghost use Rattle.std.specs.Prelude.{◌≡◌, IfOk};
 ghost use Rattle.std.specs.Option.{option_map};
 ghost use Rattle.avp_step.specs.Walk.{Walk};
 ghost use Rattle.radpolicy_record_answers.specs.RecordLines.{request_trace};
-ghost use Rattle.radpolicy_replay_records.specs.Coverings.{first_coverage, run_if};
+ghost use Rattle.radpolicy_replay_records.specs.Coverings.{covering, first_coverage, run_if};
 ghost use Rattle.radpolicy_replay_records.specs.Replays.{summary_covering};
 
 use crate::replays::Replay;
@@ -30,17 +30,33 @@ pub(crate) fn first_coverage(
     }
 }
 
+// With the steps of a run, if there is one.
+fn covering(
+    coverage: Option<Coverage>,
+    run: Option<Stepper<'_, SlotStore>>,
+) -> Result<Option<Coverage>, AllocError>
+    ensures { IfOk result (λ after. after
+        ≡ covering coverage (option_map (λ (walk : Walk). walk.trace) run.entry)) }
+{
+    match (coverage, run) {
+        (Some(before), Some(run)) => {
+            let mut after = before;
+            after.add_run(run)?;
+            Ok(Some(after))
+        }
+        (Some(before), None) => Ok(Some(before)),
+        (None, _) => Ok(None),
+    }
+}
+
 impl Summary {
     // The same with the steps of a run, if there is one and they are counted.
-    fn with_run(mut self, run: Option<Stepper<'_, SlotStore>>) -> Result<Summary, AllocError>
+    fn with_run(self, run: Option<Stepper<'_, SlotStore>>) -> Result<Summary, AllocError>
         ensures { IfOk result (λ after. after ≡ summary_covering self
             (option_map (λ (walk : Walk). walk.trace) run.entry)) }
     {
-        match (&mut self.coverage, run) {
-            (Some(coverage), Some(run)) => coverage.add_run(run)?,
-            (Some(_), None) | (None, _) => {}
-        }
-        Ok(self)
+        let coverage = covering(self.coverage, run)?;
+        Ok(Summary { coverage, ..self })
     }
 }
 
