@@ -57,7 +57,6 @@ impl Summary {
         requires within { KindsWithin self }
         ensures counts { result ≡ counted self verdict }
         ensures kept { result.differences ≡ self.differences }
-        ensures covered { result.coverage ≡ self.coverage }
     {
         let read = self.read + 1;
         match verdict {
@@ -106,7 +105,6 @@ impl Summary {
         requires within { KindsWithin self }
         ensures counts { IfOk result (λ after. after ≡ counted_with self verdict lines.now) }
         ensures kept { IfOk result (λ after. after.differences ≡ self.differences) }
-        ensures covered { IfOk result (λ after. after.coverage ≡ self.coverage) }
     {
         if lines.len() < 1 {
             return Ok(self.counted(verdict));
