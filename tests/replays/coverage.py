@@ -30,10 +30,10 @@ else {
 }
 if (&User-Name) { update control { Class += 0x02 } } if (!&User-Name) { noop }
 transaction {
-    update reply { Filter-Id := "outer" }
+    update reply { Reply-Message := "outer" }
     transaction {
-        update reply { Filter-Id := &request:Filter-Id }
-        if (&Acct-Session-Id) { fail }
+        update reply { Reply-Message := &request:Reply-Message }
+        if (&Session-Timeout) { fail }
     }
     update control {
         Class := &request:Class
