@@ -57,6 +57,7 @@ fn push_line(
 }
 
 /// The lines on which something stands, by the tallies of places and of runs, the first of which are those of line 0.
+#[tactic(auto, using(crate::proofs::LinesLeft::past_places, crate::proofs::LinesLeft::past_runs))]
 pub(crate) fn lines_of(
     alloc: Global,
     places: &[Tally],
@@ -67,7 +68,10 @@ pub(crate) fn lines_of(
     let mut lines = Vec::new(alloc);
     let (mut places_left, mut runs_left) = (places, runs);
     let mut line: usize = 0;
-    'lines: while let ([place, places @ ..], [run, runs @ ..]) = (places_left, runs_left) {
+    'lines: while let [place, places @ ..] = places_left {
+        let [run, runs @ ..] = runs_left else {
+            return Ok(lines);
+        };
         push_line(&mut lines, line, *place, *run)?;
         line += 1;
         places_left = places;

@@ -116,12 +116,16 @@ impl Tally {
 }
 
 /// The sums of two tallies of each line.
+#[tactic(auto, using(crate::proofs::Adding::past_ours, crate::proofs::Adding::past_others))]
 pub(crate) fn add_each(ours: &Vec<Tally>, others: &[Tally]) -> Result<Vec<Tally>, AllocError>
     ensures { IfOk result (λ all. all.items ≡ sums ours.now.items others.now) }
 {
     let mut all = Vec::new(*ours.allocator());
     let (mut ours_left, mut others_left) = (ours.as_slice(), others);
-    'sums: while let ([own, ours @ ..], [other, others @ ..]) = (ours_left, others_left) {
+    'sums: while let [own, ours @ ..] = ours_left {
+        let [other, others @ ..] = others_left else {
+            return Ok(all);
+        };
         all.push(own.plus(*other)?)?;
         ours_left = ours;
         others_left = others;
