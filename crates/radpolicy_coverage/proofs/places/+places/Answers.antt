@@ -23,3 +23,13 @@ pub push_statement-returns-in-None : goal.push_statement-returns-in-None
 push_statement-returns-in-None t c =
     if_pushed c.args.statement.now c.in-If.branches c.as_slice-in-If.result.now c.in-If.otherwise c.args.places.now.items c.push_branches.new.places.items
     c.in-If.is c.in-None.is c.as_slice-in-If.ensures c.in_ok-push_branches-in-If.ensures
+
+pub push_statement-returns-in_ok-push-in-Transaction : goal.push_statement-returns-in_ok-push-in-Transaction
+push_statement-returns-in_ok-push-in-Transaction t c =
+    on_ok c.push_block-in-Transaction.result _ _
+    (λ h. transaction_pushed c.args.statement.now c.args.places.now.items c.in-Transaction.line c.in-Transaction.block c.as_slice-in-Transaction.result.now c.push.new.self.items
+    c.push_block-in-Transaction.new.places.items c.in-Transaction.is c.as_slice-in-Transaction.ensures c.in_ok-push-in-Transaction.ensures.items h) c.push_block-in-Transaction.ensures
+
+pub push_statement-returns-in_ok-push-in-Word : goal.push_statement-returns-in_ok-push-in-Word
+push_statement-returns-in_ok-push-in-Word t c =
+    word_pushed c.args.statement.now c.args.places.now.items c.in-Word.line c.in-Word.field-1 c.push-in-Word.new.self.items c.in-Word.is c.in_ok-push-in-Word.ensures.items
