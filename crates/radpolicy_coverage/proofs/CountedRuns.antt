@@ -51,20 +51,20 @@ counted_to_end labels i xs whole past so_far =
 stepped : (w : Walk) (moved : Moved) (l : Label) → moved ≡ answer_of_forward w → moved ≡ To l → (w.position + 1 < length w.trace) × (l ≡ (entry_at w (w.position + 1)).label)
 stepped w moved l answer is = elim (cases_Bool (is_before_end w)) [
   | inl t ↦
-    let told : moved ≡ To (entry_at w (w.position + 1)).label =
-    answer ∙ ap (λ b. if b then To (entry_at w (w.position + 1)).label else AtEnd) t in
-    (ltb-true (w.position + 1) (length w.trace) t, cc)
+      let told : moved ≡ To (entry_at w (w.position + 1)).label =
+      answer ∙ ap (λ b. if b then To (entry_at w (w.position + 1)).label else AtEnd) t in
+      (ltb-true (w.position + 1) (length w.trace) t, cc)
   | inr f ↦
-    let told : moved ≡ AtEnd = answer ∙ ap (λ b. if b then To (entry_at w (w.position + 1)).label else AtEnd) f in
-    absurd (cc)
+      let told : moved ≡ AtEnd = answer ∙ ap (λ b. if b then To (entry_at w (w.position + 1)).label else AtEnd) f in
+      absurd (cc)
 ]
 
 ended : (w : Walk) (moved : Moved) → moved ≡ answer_of_forward w → moved ≡ AtEnd → length w.trace ≤ w.position + 1
 ended w moved answer is = elim (cases_Bool (is_before_end w)) [
   | inl t ↦
-    let told : moved ≡ To (entry_at w (w.position + 1)).label =
-    answer ∙ ap (λ b. if b then To (entry_at w (w.position + 1)).label else AtEnd) t in
-    absurd (cc)
+      let told : moved ≡ To (entry_at w (w.position + 1)).label =
+      answer ∙ ap (λ b. if b then To (entry_at w (w.position + 1)).label else AtEnd) t in
+      absurd (cc)
   | inr f ↦ ltb-false (w.position + 1) (length w.trace) f
 ]
 
@@ -89,8 +89,7 @@ step_told w v moved l trace xs ys whole after is same within counts so_far =
     let on : v ≡ reached (w.position + 1) w = moved_on w v after.0 step.0 in
     let before : w.position + 1 < length trace = subst (λ (t : List Entry). w.position + 1 < length t) same step.0 in
     let here : l ≡ (slice_index_or trace (w.position + 1) (start empty_state)).label =
-    step.1 ∙ ap (λ (t : List Entry). (slice_index_or t (w.position + 1) (start empty_state)).label) same in
-    (
+    step.1 ∙ ap (λ (t : List Entry). (slice_index_or t (w.position + 1) (start empty_state)).label) same in (
       ap (λ (x : Walk). x.trace) on ∙ same,
       subst IsWithin (sym on) (reached_within w step.0 within),
       ap (λ (x : Walk). with_steps ys (labels_of (drop (x.position + 1) trace))) on

@@ -47,11 +47,7 @@ fn push_line(
     ensures { OnOk result (lines.new.items ≡ lines.old.items ++ covered_line line places runs) }
 {
     if places.ran > 0 {
-        lines.push(CoveredLine {
-            line,
-            places,
-            runs,
-        })?;
+        lines.push(CoveredLine { line, places, runs })?;
     }
     Ok(())
 }

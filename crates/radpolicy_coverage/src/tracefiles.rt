@@ -106,11 +106,7 @@ fn push_line_totals(text: &mut Vec<u8>, found: Totals) -> Result<(), AllocError>
 }
 
 /// The tracefile of these lines of a file that is at this path.
-pub fn tracefile(
-    alloc: Global,
-    path: &[u8],
-    lines: &[CoveredLine],
-) -> Result<Vec<u8>, AllocError>
+pub fn tracefile(alloc: Global, path: &[u8], lines: &[CoveredLine]) -> Result<Vec<u8>, AllocError>
     ensures { IfOk result (λ text. text.items ≡ tracefile path.now lines.now) }
 {
     let found = totals_of(alloc, lines)?;

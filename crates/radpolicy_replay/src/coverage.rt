@@ -171,13 +171,7 @@ fn show_coverage(
 }
 
 // Whether so many of all are as many as were asked for; says where they are fewer.
-fn is_reached(
-    rt: &HostRuntime,
-    least: Option<u8>,
-    count: usize,
-    all: usize,
-    what: &str,
-) -> bool {
+fn is_reached(rt: &HostRuntime, least: Option<u8>, count: usize, all: usize, what: &str) -> bool {
     let Some(percent) = least else {
         return true;
     };
@@ -201,7 +195,13 @@ fn tell_coverage<'a>(
         show_coverage(rt, plan, &lines, totals)?;
     }
     let (lines_run, taken) = (totals.lines_run, totals.branches_taken);
-    let lines = is_reached(rt, plan.coverage.least_lines, lines_run, totals.lines, "lines");
+    let lines = is_reached(
+        rt,
+        plan.coverage.least_lines,
+        lines_run,
+        totals.lines,
+        "lines",
+    );
     let branches = is_reached(
         rt,
         plan.coverage.least_branches,
