@@ -1,4 +1,4 @@
-"""What `radpolicy-replay --coverage` counts: what the labels of `radpolicy step` add up to; and what lcov makes of it."""
+"""What `radpolicy-replay --coverage` counts: what labels of `radpolicy step` add up to; and what lcov makes of it."""
 import re
 import shutil
 from collections import Counter
@@ -131,7 +131,8 @@ def faults_of_file(path: Path, wanted: Counts) -> List[str]:
     wrong = [] if words["DA"] == lines else [f"{words['DA']}, not {lines}"]
     wrong += [] if places == sorted(BLOCKS) else [f"branches of {places}"]
     wrong += faults_of_branches(branches, wanted)
-    totals = {"LF": len(lines), "LH": sum(not line.endswith(",0") for line in lines), "BRF": len(branches), "BRH": taken}
+    run_lines = sum(not line.endswith(",0") for line in lines)
+    totals = {"LF": len(lines), "LH": run_lines, "BRF": len(branches), "BRH": taken}
     wrong += [f"{name}:{words[name]}, not {total}" for name, total in totals.items() if words[name] != [str(total)]]
     return wrong + ([] if words["SF"] == ["policy"] and words["end_of_record"] == [""] else [f"{words['SF']}"])
 
@@ -212,7 +213,8 @@ def check_file(place: Place, report: Report) -> None:
     kept = status_with(place, records(5), "--coverage", "mine") == 2 and (place.folder / "mine").read_text() == "mine\n"
     forced = status_with(place, records(5), "--coverage", "mine", "--force") == 0
     again = status_with(place, records(9), "--coverage", "mine") == 0
-    report.check("replay: whose coverage file is replaced", [] if kept and forced and again else [f"{kept, forced, again}"])
+    wrong = [] if kept and forced and again else [f"{kept, forced, again}"]
+    report.check("replay: whose coverage file is replaced", wrong)
 
 
 def check(subject: Subject, report: Report) -> None:

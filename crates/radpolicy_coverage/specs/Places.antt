@@ -28,9 +28,9 @@ statement_layer_places (Word n word) = label.Word n ∷ []
 abbrev pub branch_layer_places : Branch-F (List Label) (List Label) → List Label
 branch_layer_places b = label.If b.line true ∷ joined b.block
 
--- The places of a statement, each as a step that may be made there: an update line as one that is made, the condition of
--- an `if` or `elsif` as one that is true, a transaction as its beginning, and a word. Nothing else is a place: no `else`,
--- no brace, and not the word `update`.
+-- The places of a statement, each as a step that may be made there: an update line as one that is made, the condition
+-- of an `if` or `elsif` as one that is true, a transaction as its beginning, and a word. Nothing else is a place: no
+-- `else`, no brace, and not the word `update`.
 unfoldable pub statement_places : Statement → List Label
 statement_places =
     fold-Statement (List Label) (List Label) statement_layer_places branch_layer_places

@@ -16,8 +16,8 @@ use avp_unlang::Policy;
 use std::alloc::{AllocError, Global};
 use std::marker::Model;
 
-/// What stands on each line of a policy, and what the steps of runs did there. Its memory is that of the policy's lines,
-/// however many runs there are. A count of 2^64 is refused as want of memory.
+/// What stands on each line of a policy, and what the steps of runs did there. Its memory is that of the lines, however
+/// many runs there are. A count of 2^64 is refused as want of memory.
 #[derive(Drop)]
 pub struct Coverage {
     places: Vec<Tally>,
