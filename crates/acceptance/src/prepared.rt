@@ -1,6 +1,0 @@
-//! Tests of prepared policies: what their runs come to, and what is refused.
-
-mod refusals;
-mod runners;
-mod runs;
-mod starts;
