@@ -1,7 +1,7 @@
 //! The examples in the doc comments of public calls, as tests.
 //!
-//! A function under a line `// Example: CALL` has the lines of that call's example, and `Ok(())` after them. What an
-//! example does not make itself, it takes as an argument. `scripts/check-doc-examples` compares the two.
+//! A block under a line `// Example: CALL` has the lines of that call's example. What an example does not make itself is
+//! made before its block. `scripts/check-doc-examples` compares the two.
 #![tactic(auto)]
 
 #[cfg(test)]
