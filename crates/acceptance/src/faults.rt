@@ -1,18 +1,75 @@
-//! The line and the status of each kind of fault, and outputs and inputs at their ends.
+//! Faults beside those of the other rows, and an output at its end.
 
 ghost use Rattle.std.specs.Prelude.{◌≡◌, true};
 ghost use Rattle.radpolicy.specs.Faults.{IsPrintedWith};
 
-use crate::program::Narrow;
+use crate::program::{expect_fault, with_room};
 use avp_dict::{DictFault, DictKind, FileSet, LineFault, LineKind, NamedFile};
 use avp_lists::Octets;
-use avp_packet::PacketFault;
-use avp_patterns::PatternFault;
 use avp_unlang::{PolicyFault, PolicyKind};
-use radpolicy::{Fault, Output, OutputError, WriteOutput, print_fault, read_input, status};
+use radpolicy::{Fault, Output, OutputError, WriteOutput, print_fault, status};
 use std::alloc::{AllocError, Global};
-use std::process::Abort;
 use std::test::Fail;
+
+/// What is refused, and the line that is printed, beside those of the other rows.
+pub const FAULTS: &str = "
+$ radpolicy
+> 2
+radpolicy: E01: usage
+
+$ radpolicy run -i 256 --policy p d
+> 2
+radpolicy: E02: option value
+
+$ radpolicy step --policy p --script s d
+< s
+forward
+forward
+forward
+forward
+forward
+forward
+forwards
+> 2
+radpolicy: E06 script:7: unknown script word
+
+$ radpolicy check d local/more
+# The name of the file is its last component.
+< d
+$INCLUDE more
+< local/more
+ATTRIBUTE A 200 integer
+VALUE A One 1
+VALUE A one 2
+
+> 2
+radpolicy: E19 more:3: VALUE has another number
+
+$ radpolicy check --policy p d
+< p
+ok
+ok
+ok
+ok
+ok
+ok
+ok
+ok
+ok
+ok
+ok
+update { Vendor-Specific := 0x00 }
+> 2
+radpolicy: E33 policy:12: not writable
+
+$ radpolicy check --policy p d
+< p
+# profile: wider
+
+if (&User-Name =~ /a(/) { ok }
+> 2
+radpolicy: E59 policy:3: not a pattern
+";
 
 // Two dictionary files.
 fn two_files(alloc: Global) -> Result<FileSet, AllocError> {
@@ -35,49 +92,39 @@ fn can_print(fault: Fault, files: &FileSet) -> bool
     }
 }
 
-// The fault has this line after the program's name, which ends with its text, and this status.
-fn expect_line(
-    rt: &impl Abort,
-    alloc: Global,
-    fault: Fault,
-    wanted_status: u8,
-    wanted: &str,
-) -> Result<(), Fail> {
-    let files = two_files(alloc)?;
-    assert!(rt; can_print(fault, &files));
-    let mut held: Vec<u8> = Vec::new(alloc);
-    assert!(rt; print_fault(&fault, &files, &mut WriteOutput::new(&mut held)));
-    let line = format!(in alloc; "radpolicy: {wanted}\n")?;
-    assert_eq!(rt; held.as_slice(), line.as_bytes());
-    let shown = format!(in alloc; "{fault}")?;
-    assert!(rt; wanted.ends_with(shown.as_str()));
-    assert_eq!(rt; status(&fault), wanted_status);
-    Ok(())
-}
+const OUT_OF_MEMORY: &[u8] = b"radpolicy: E09: out of memory\n";
 
-// Faults, their status and their line after the program's name.
-const FAULTS: [(Fault, u8, &str); 19] = [
-    (Fault::Usage, 2, "E01: usage"),
-    (Fault::OptionValue, 2, "E02: option value"),
-    (Fault::EmptySecret, 2, "E03: empty secret"),
-    (Fault::NotHex, 2, "E05: not hex"),
-    (
-        Fault::ScriptWord { line: 7 },
-        2,
-        "E06 script:7: unknown script word",
-    ),
-    (Fault::Write, 3, "E07: write fault"),
-    (Fault::Memory, 4, "E09: out of memory"),
-    (Fault::PacketTooLong, 2, "E46: packet too long"),
+// Faults that no row meets. Want of memory is the same wherever it is met.
+const UNMET: [(Fault, u8, &[u8]); 6] = [
+    (Fault::Write, 3, b"radpolicy: E07: write fault\n"),
+    (Fault::Memory, 4, OUT_OF_MEMORY),
     (
         Fault::Dictionary(DictFault {
             file: 0,
-            line: 2,
-            offset: 34,
-            kind: DictKind::OtherNumber,
+            line: 0,
+            offset: 0,
+            kind: DictKind::Memory,
         }),
-        2,
-        "E12 d:2: name has another number",
+        4,
+        OUT_OF_MEMORY,
+    ),
+    (
+        Fault::Request(LineFault {
+            line: 1,
+            offset: 0,
+            kind: LineKind::Memory,
+        }),
+        4,
+        OUT_OF_MEMORY,
+    ),
+    (
+        Fault::Policy(PolicyFault {
+            line: 1,
+            offset: 0,
+            kind: PolicyKind::Memory,
+        }),
+        4,
+        OUT_OF_MEMORY,
     ),
     (
         Fault::Dictionary(DictFault {
@@ -87,127 +134,35 @@ const FAULTS: [(Fault, u8, &str); 19] = [
             kind: DictKind::OtherValue,
         }),
         2,
-        "E19 more:200000: VALUE has another number",
-    ),
-    (
-        Fault::Dictionary(DictFault {
-            file: 0,
-            line: 0,
-            offset: 0,
-            kind: DictKind::Memory,
-        }),
-        4,
-        "E09: out of memory",
-    ),
-    (
-        Fault::Request(LineFault {
-            line: 3,
-            offset: 40,
-            kind: LineKind::SecondPacket,
-        }),
-        2,
-        "E34 request:3: second packet",
-    ),
-    (
-        Fault::Request(LineFault {
-            line: 1,
-            offset: 0,
-            kind: LineKind::Memory,
-        }),
-        4,
-        "E09: out of memory",
-    ),
-    (
-        Fault::Packet(PacketFault::TooShort),
-        2,
-        "E40: fewer than 20 octets",
-    ),
-    (
-        Fault::Packet(PacketFault::BadAttribute(20)),
-        2,
-        "E43 offset 20: bad attribute length",
-    ),
-    (
-        Fault::Policy(PolicyFault {
-            line: 12,
-            offset: 0,
-            kind: PolicyKind::NotWritable,
-        }),
-        2,
-        "E33 policy:12: not writable",
-    ),
-    (
-        Fault::Policy(PolicyFault {
-            line: 1,
-            offset: 0,
-            kind: PolicyKind::OtherType,
-        }),
-        2,
-        "E55 policy:1: types differ",
-    ),
-    (
-        Fault::Policy(PolicyFault {
-            line: 3,
-            offset: 40,
-            kind: PolicyKind::Pattern(PatternFault::NotRead(2)),
-        }),
-        2,
-        "E59 policy:3: not a pattern",
-    ),
-    (
-        Fault::Policy(PolicyFault {
-            line: 1,
-            offset: 0,
-            kind: PolicyKind::Memory,
-        }),
-        4,
-        "E09: out of memory",
+        b"radpolicy: E19 more:200000: VALUE has another number\n",
     ),
 ];
 
 #[test]
-fn shows_the_line_and_the_status_of_faults(rt: HostRuntime) -> Result<(), Fail> {
-    for (fault, status, line) in FAULTS {
-        expect_line(&rt, rt.alloc(), fault, status, line)?;
-    }
-    Ok(())
-}
-
-#[test]
-fn says_that_the_output_failed(rt: HostRuntime) -> Result<(), Fail> {
+fn shows_faults_that_no_row_meets(rt: HostRuntime) -> Result<(), Fail> {
     let files = two_files(rt.alloc())?;
-    let mut writer = Narrow {
-        held: Vec::new(rt.alloc()),
-        room: 12,
-    };
-    let is_put = print_fault(&Fault::Usage, &files, &mut WriteOutput::new(&mut writer));
-    assert!(rt; !is_put);
-    let Narrow { held, room: _ } = writer;
-    assert_eq!(rt; held.as_slice(), b"radpolicy: E".as_slice());
+    for (fault, wanted, line) in UNMET {
+        assert!(&rt; can_print(fault, &files));
+        expect_fault(&rt, rt.alloc(), &fault, &files, (wanted, line))?;
+    }
+    assert_eq!(&rt; status(&Fault::Help), 0);
     Ok(())
 }
 
 // An output takes what its writer takes, and fails where it takes nothing.
 #[test]
 fn puts_until_the_writer_is_full(rt: HostRuntime) -> Result<(), Fail> {
-    let mut writer = Narrow {
-        held: Vec::new(rt.alloc()),
-        room: 3,
-    };
+    let mut writer = with_room(rt.alloc(), 3);
     let mut out = WriteOutput::new(&mut writer);
-    assert_eq!(rt; out.put(b"re"), Ok(2));
-    assert_eq!(rt; out.put(b"quest\n"), Ok(1));
-    assert_eq!(rt; out.put(b"uest\n"), Err(OutputError));
-    assert_eq!(rt; out.put(b"reply\n"), Err(OutputError));
-    let Narrow { held, room: _ } = writer;
-    assert_eq!(rt; held.as_slice(), b"req".as_slice());
-    Ok(())
-}
-
-#[test]
-fn reads_all_of_an_input(rt: HostRuntime) -> Result<(), Fail> {
-    let octets = b"abc".as_slice();
-    let input = read_input(rt.alloc(), octets)?.ok_or("short enough")?;
-    assert_eq!(rt; input.as_slice(), octets);
+    assert_eq!(&rt; out.put(b"re"), Ok(2));
+    assert_eq!(&rt; out.put(b"quest\n"), Ok(1));
+    assert_eq!(&rt; out.put(b"uest\n"), Err(OutputError));
+    assert_eq!(&rt; out.put(b"reply\n"), Err(OutputError));
+    assert_eq!(&rt; writer.held.as_slice(), b"req".as_slice());
+    let mut writer = with_room(rt.alloc(), 12);
+    let files = FileSet::from_vec(Vec::new(rt.alloc()));
+    let is_put = print_fault(&Fault::Usage, &files, &mut WriteOutput::new(&mut writer));
+    assert!(&rt; !is_put);
+    assert_eq!(&rt; writer.held.as_slice(), b"radpolicy: E".as_slice());
     Ok(())
 }

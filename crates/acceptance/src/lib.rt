@@ -1,13 +1,11 @@
-//! The worked examples of the program, as calls of its library over bytes and a writer in memory, and tests of
-//! prepared policies.
+//! The worked rows of the program, as calls of its library over bytes and a writer in memory, and tests of prepared
+//! policies.
 #![tactic(auto)]
 
 #[cfg(test)]
 mod call_examples;
 #[cfg(test)]
 mod checks;
-#[cfg(test)]
-mod commands;
 #[cfg(test)]
 mod data;
 #[cfg(test)]
@@ -20,6 +18,8 @@ mod packets;
 mod prepared;
 #[cfg(test)]
 mod program;
+#[cfg(test)]
+mod rows;
 #[cfg(test)]
 mod runs;
 #[cfg(test)]

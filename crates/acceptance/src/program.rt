@@ -1,6 +1,6 @@
-//! The program without its files and streams: words, named bytes and writers in memory.
+//! The program without its files and streams: words, named bytes and a writer in memory.
 
-ghost use Rattle.std.specs.Prelude.{◌≡◌, [], IfOk, Some, is_some};
+ghost use Rattle.std.specs.Prelude.{◌≡◌, IfOk, Some, is_some};
 ghost use Rattle.radpolicy.specs.Faults.{IsPrintedWith};
 ghost use Rattle.radpolicy.specs.Plans.{IsSound, asked_by_job, asked_by_plan, names_of_files, names_of_paths};
 
@@ -19,26 +19,23 @@ pub type Source<'a> = (&'a str, &'a [u8]);
 /// The status, and the output, or where the status is not 0 the line of the fault.
 pub type End<'a> = (u8, &'a [u8]);
 
-/// What the program left: its status, its standard output and its standard error.
-#[derive(Drop)]
-pub struct Finished {
-    pub status: u8,
-    pub output: Vec<u8>,
-    pub errors: Vec<u8>,
-}
-
-/// A writer that takes some octets, and then fails.
+/// A writer that takes so many octets at a time while it has room, and then fails: by an error, or by a count of 0.
 #[derive(Drop)]
 pub struct Narrow {
     pub held: Vec<u8>,
     pub room: usize,
+    pub at_a_time: usize,
+    pub errs: bool,
 }
 
 impl Write for Narrow {
     ghost contents = { λ w. Some w.held.items };
 
     fn write(&mut self, buf: &[u8]) -> io::Result<usize> {
-        let count = buf.len().min(self.room);
+        let count = buf.len().min(self.room).min(self.at_a_time);
+        if count == 0 && self.errs {
+            return Err(io::ErrorKind::BrokenPipe.into());
+        }
         self.held.extend_from_slice(&buf[..count])?;
         self.room -= count;
         Ok(count)
@@ -49,13 +46,26 @@ impl Write for Narrow {
     }
 }
 
-// What is at a path; nothing if there is no such path.
+/// A writer that takes all that it has room for.
+pub fn with_room(alloc: Global, room: usize) -> Narrow {
+    Narrow {
+        held: Vec::new(alloc),
+        room,
+        at_a_time: usize::MAX,
+        errs: false,
+    }
+}
+
+/// What is at a path; nothing if there is no such path.
+pub fn text_at<'a>(sources: &[Source<'a>], path: &str) -> &'a [u8] {
+    match sources.iter().find(|source| source.0 == path) {
+        Some(source) => source.1,
+        None => b"",
+    }
+}
+
 fn octets_at(alloc: Global, sources: &[Source], path: &str) -> Result<Octets, AllocError> {
-    let octets = match sources.iter().find(|source| source.0 == path) {
-        Some(source) => Vec::from_slice(alloc, source.1)?,
-        None => Vec::new(alloc),
-    };
-    Ok(Octets::from_vec(octets))
+    Octets::from_slice(alloc, text_at(sources, path))
 }
 
 fn optional_at(
@@ -99,57 +109,6 @@ pub fn job_of(alloc: Global, sources: &[Source], plan: &Plan) -> Result<Job, All
     })
 }
 
-// The line of a fault.
-fn line_of(alloc: Global, fault: &Fault, files: &FileSet) -> Vec<u8>
-    requires { IsPrintedWith files.now fault.now }
-{
-    let mut line = Vec::new(alloc);
-    let _ = print_fault(fault, files, &mut WriteOutput::new(&mut line));
-    line
-}
-
-// Does a job, and prints its fault if there is one.
-fn finish(alloc: Global, job: &Job) -> Finished
-    requires { IsSound (asked_by_job job.now) }
-{
-    let mut output = Vec::new(alloc);
-    match answer(alloc, job, &mut WriteOutput::new(&mut output)) {
-        Ok(_) => Finished {
-            status: 0,
-            output,
-            errors: Vec::new(alloc),
-        },
-        Err(fault) => Finished {
-            status: status(&fault),
-            output,
-            errors: line_of(alloc, &fault, &job.files),
-        },
-    }
-}
-
-// Prints the fault of the words.
-fn refuse(alloc: Global, fault: &Fault) -> Finished
-    requires { IsPrintedWith [] fault.now }
-{
-    Finished {
-        status: status(fault),
-        output: Vec::new(alloc),
-        errors: line_of(alloc, fault, &FileSet::from_vec(Vec::new(alloc))),
-    }
-}
-
-/// The program on these words, which do not ask for its help.
-pub fn program(alloc: Global, words: &[&str], sources: &[Source]) -> Result<Finished, Fail> {
-    match read_words(alloc, words) {
-        Ok(plan) => {
-            let job = job_of(alloc, sources, &plan)?;
-            Ok(finish(alloc, &job))
-        }
-        Err(Fault::Help) => Err("words that ask for help")?,
-        Err(fault) => Ok(refuse(alloc, &fault)),
-    }
-}
-
 /// The words of a command line.
 pub fn words_of<'a>(alloc: Global, text: &'a str) -> Result<Vec<&'a str>, AllocError> {
     let mut words = Vec::new(alloc);
@@ -159,7 +118,46 @@ pub fn words_of<'a>(alloc: Global, text: &'a str) -> Result<Vec<&'a str>, AllocE
     Ok(words)
 }
 
-/// The program on these words ends so, and prints nothing else.
+/// The fault has this status, and its line is this, which ends with its text.
+pub fn expect_fault(
+    rt: &impl Abort,
+    alloc: Global,
+    fault: &Fault,
+    files: &FileSet,
+    end: End<'_>,
+) -> Result<(), Fail>
+    requires { IsPrintedWith files.now fault.now }
+{
+    let mut line: Vec<u8> = Vec::new(alloc);
+    assert!(rt; print_fault(fault, files, &mut WriteOutput::new(&mut line)));
+    let (wanted_status, wanted) = end;
+    assert_eq!(rt; line.as_slice(), wanted);
+    let shown = format!(in alloc; "{fault}\n")?;
+    assert!(rt; wanted.ends_with(shown.as_bytes()));
+    assert_eq!(rt; status(fault), wanted_status);
+    Ok(())
+}
+
+// The job ends so, and puts out nothing else.
+fn expect_done(rt: &impl Abort, alloc: Global, job: &Job, end: End<'_>) -> Result<(), Fail>
+    requires { IsSound (asked_by_job job.now) }
+{
+    let mut output: Vec<u8> = Vec::new(alloc);
+    match answer(alloc, job, &mut WriteOutput::new(&mut output)) {
+        Ok(_) => {
+            let (wanted_status, wanted) = end;
+            assert_eq!(rt; output.as_slice(), wanted);
+            assert_eq!(rt; wanted_status, 0);
+            Ok(())
+        }
+        Err(fault) => {
+            assert!(rt; output.is_empty());
+            expect_fault(rt, alloc, &fault, &job.files, end)
+        }
+    }
+}
+
+/// The program on these words, which do not ask for its help, ends so, and prints nothing else.
 pub fn expect_end(
     rt: &impl Abort,
     alloc: Global,
@@ -168,38 +166,15 @@ pub fn expect_end(
     end: End<'_>,
 ) -> Result<(), Fail> {
     let words = words_of(alloc, words)?;
-    let finished = program(alloc, &words, sources)?;
-    let (status, wanted) = end;
-    let nothing: &[u8] = b"";
-    let (output, errors) = if status == 0 {
-        (wanted, nothing)
-    } else {
-        (nothing, wanted)
-    };
-    assert_eq!(rt; finished.errors.as_slice(), errors);
-    assert_eq!(rt; finished.status, status);
-    assert_eq!(rt; finished.output.as_slice(), output);
-    Ok(())
-}
-
-/// The program on these words has a write fault at a writer of this room, and put out the front of the report.
-pub fn expect_write_fault(
-    rt: &impl Abort,
-    alloc: Global,
-    words: &str,
-    sources: &[Source],
-    front: &[u8],
-) -> Result<(), Fail> {
-    let words = words_of(alloc, words)?;
-    let plan = read_words(alloc, &words).map_err(|_| "a plan")?;
-    let job = job_of(alloc, sources, &plan)?;
-    let mut writer = Narrow {
-        held: Vec::new(alloc),
-        room: front.len(),
-    };
-    let refused = answer(alloc, &job, &mut WriteOutput::new(&mut writer));
-    assert!(rt; matches!(&refused, Err(Fault::Write)));
-    assert_eq!(rt; status(&Fault::Write), 3);
-    assert_eq!(rt; writer.held.as_slice(), front);
-    Ok(())
+    match read_words(alloc, &words) {
+        Ok(plan) => {
+            let job = job_of(alloc, sources, &plan)?;
+            expect_done(rt, alloc, &job, end)
+        }
+        Err(Fault::Help) => Err(Fail::new("words that ask for help")),
+        Err(fault) => {
+            let files = FileSet::from_vec(Vec::new(alloc));
+            expect_fault(rt, alloc, &fault, &files, end)
+        }
+    }
 }

@@ -1,53 +1,15 @@
 //! Walks by a script, forward and back over the run of a policy.
 
-use crate::commands::{STEP, STEP_PACKET};
-use crate::program::{Source, expect_end};
-use crate::runs::{ABSENT_SOURCE, GREETING, MIXED_CONDITION};
-use attribute_tests::samples::{NESTED_TRANSACTIONS, TEST_DICTIONARY};
-use std::test::Fail;
-
-/// Goes to the end, back into the transactions, and to the start.
-pub const THERE_AND_BACK: &[u8] = b"end back back show start back";
-
-const FAILED_TRANSACTION: &[u8] =
-    b"update reply { Class += 0x01 Reply-Message += \"a\" Class += 0x02 Class += 0x01 }
-transaction {
-update reply { Class += 0x09 }
-fail }";
-
-/// A transaction that is refused, round one that fails.
-pub const EDITED_TRANSACTIONS: &[u8] = b"update reply { Class += 0x01 Class += 0x02 Class += 0x01 }
-transaction {
-  update reply { Class -= 0x01 }
-  transaction {
-    update reply { Class := 0x03 }
-    fail
-  }
-  update reply { Class += 0x04 }
-  reject
-}
-update reply { Class := 0x05 }
-";
-
-const PREPENDING_TRANSACTION: &[u8] = b"update reply { Class ^= 0x01 }
-transaction {
-  update reply { Class ^= 0x02 Class += 0x03 }
-  fail
-}
-update reply { Class ^= 0x04 }
-";
-
-// Words, scripts, requests, policies, the status, and what the walk prints or the line of a fault.
-const STEPS: [(&str, &[u8], &[u8], &[u8], u8, &[u8]); 13] = [
-    // Each step of transactions has its label, and the lists are shown after both rollbacks.
-    (
-        STEP,
-        b"forward forward forward forward forward forward forward forward forward show
-forward forward forward forward show forward forward",
-        b"",
-        NESTED_TRANSACTIONS,
-        0,
-        b"1 line 1 ok
+/// Requests, policies and scripts, and what the walks print or the line of a fault.
+pub const STEPS: &str = "
+$ radpolicy step --policy p --script s d
+# Each step of transactions has its label, and the lists are shown after both rollbacks.
+< p nested
+< s
+forward forward forward forward forward forward forward forward forward show
+forward forward forward forward show forward forward
+> 0
+1 line 1 ok
 2 enter 2 ok
 3 line 3 ok
 4 enter 4 ok
@@ -70,55 +32,58 @@ reply
 control
 14 line 14 reject
 14 line 14 reject stays
-",
-    ),
-    // So has a line with an absent source.
-    (
-        STEP,
-        b"end",
-        b"User-Name = \"u\"\n",
-        ABSENT_SOURCE,
-        0,
-        b"3 line 4 failed P1 fail\n",
-    ),
-    // A condition that holds.
-    (
-        STEP,
-        b"forward forward forward",
-        b"User-Name = bob\nNAS-Port = 7\n",
-        GREETING,
-        0,
-        b"1 if 1 true ok
+
+$ radpolicy step --policy p --script s d
+# So has a line with an absent source.
+< -
+User-Name = \"u\"
+
+< p absent
+< s
+end
+> 0
+3 line 4 failed P1 fail
+
+$ radpolicy step --policy p --script s d
+# A condition that holds.
+< -
+User-Name = bob
+NAS-Port = 7
+
+< p greeting
+< s
+forward forward forward
+> 0
+1 if 1 true ok
 2 line 2 ok
 2 line 2 ok stays
-",
-    ),
-    // A mixed condition.
-    (
-        STEP,
-        b"forward forward",
-        b"",
-        MIXED_CONDITION,
-        0,
-        b"1 if 1 true ok\n2 word 1 noop\n",
-    ),
-    // An expanded text that is no value.
-    (
-        STEP,
-        b"end",
-        b"User-Name = \"300\"",
-        b"update control { Session-Timeout := \"%{User-Name}x\" }",
-        0,
-        b"1 line 1 failed P2 fail\n",
-    ),
-    // Back into a refused transaction.
-    (
-        STEP,
-        THERE_AND_BACK,
-        b"",
-        NESTED_TRANSACTIONS,
-        0,
-        b"14 line 14 reject
+
+$ radpolicy step --policy p --script s d
+# A mixed condition.
+< p mixed
+< s
+forward forward
+> 0
+1 if 1 true ok
+2 word 1 noop
+
+$ radpolicy step --policy p --script s d
+# An expanded text that is no value.
+< -
+User-Name = \"300\"
+< p
+update control { Session-Timeout := \"%{User-Name}x\" }
+< s
+end
+> 0
+1 line 1 failed P2 fail
+
+$ radpolicy step --policy p --script s d
+# Back into a refused transaction.
+< p nested
+< s there-and-back
+> 0
+14 line 14 reject
 13 rollback 2 reject
 12 word 12 reject
 request
@@ -128,16 +93,17 @@ reply
 control
 0 start ok
 0 start ok stays
-",
-    ),
-    // Back from a line that failed, which fails again.
-    (
-        STEP,
-        b"end back show forward",
-        b"User-Name = \"u\"\n",
-        ABSENT_SOURCE,
-        0,
-        b"3 line 4 failed P1 fail
+
+$ radpolicy step --policy p --script s d
+# Back from a line that failed, which fails again.
+< -
+User-Name = \"u\"
+
+< p absent
+< s
+end back show forward
+> 0
+3 line 4 failed P1 fail
 2 line 3 ok
 request
   User-Name = \"u\"
@@ -146,18 +112,24 @@ reply
   Reply-Message = \"x\"
 control
 3 line 4 failed P1 fail
-",
-    ),
-    // Nothing for an empty script.
-    (STEP, b"", b"", b"", 0, b""),
-    // Back over a rollback.
-    (
-        STEP,
-        b"end show back back show",
-        b"",
-        FAILED_TRANSACTION,
-        0,
-        b"8 rollback 2 fail
+
+$ radpolicy step --policy p --script s d
+# Nothing for an empty script.
+< s
+
+> 0
+
+$ radpolicy step --policy p --script s d
+# Back over a rollback.
+< p
+update reply { Class += 0x01 Reply-Message += \"a\" Class += 0x02 Class += 0x01 }
+transaction {
+update reply { Class += 0x09 }
+fail }
+< s
+end show back back show
+> 0
+8 rollback 2 fail
 request
 reply
   Class = 0x01
@@ -175,16 +147,14 @@ reply
   Class = 0x01
   Class = 0x09
 control
-",
-    ),
-    // Back over two rollbacks.
-    (
-        STEP,
-        b"end back back back back show back show",
-        b"",
-        EDITED_TRANSACTIONS,
-        0,
-        b"13 line 11 reject
+
+$ radpolicy step --policy p --script s d
+# Back over two rollbacks.
+< p edited
+< s
+end back back back back show back show
+> 0
+13 line 11 reject
 12 rollback 2 reject
 11 word 9 reject
 10 line 8 fail
@@ -198,16 +168,21 @@ request
 reply
   Class = 0x03
 control
-",
-    ),
-    // Back to pairs at both ends.
-    (
-        STEP,
-        b"end show back back back show",
-        b"",
-        PREPENDING_TRANSACTION,
-        0,
-        b"7 line 6 fail
+
+$ radpolicy step --policy p --script s d
+# Back to pairs at both ends.
+< p
+update reply { Class ^= 0x01 }
+transaction {
+  update reply { Class ^= 0x02 Class += 0x03 }
+  fail
+}
+update reply { Class ^= 0x04 }
+
+< s
+end show back back back show
+> 0
+7 line 6 fail
 request
 reply
   Class = 0x04
@@ -222,37 +197,18 @@ reply
   Class = 0x01
   Class = 0x03
 control
-",
-    ),
-    (
-        STEP,
-        b"show\njump",
-        b"",
-        b"",
-        2,
-        b"radpolicy: E06 script:2: unknown script word\n",
-    ),
-    // A packet without a secret.
-    (
-        STEP_PACKET,
-        b"",
-        b"",
-        b"",
-        2,
-        b"radpolicy: E02: option value\n",
-    ),
-];
 
-#[test]
-fn walks_forward_and_back(rt: HostRuntime) -> Result<(), Fail> {
-    for (words, script, request, policy, status, wanted) in STEPS {
-        let sources: [Source; 4] = [
-            ("d", TEST_DICTIONARY),
-            ("-", request),
-            ("p", policy),
-            ("s", script),
-        ];
-        expect_end(&rt, rt.alloc(), words, &sources, (status, wanted))?;
-    }
-    Ok(())
-}
+$ radpolicy step --policy p --script s d
+< s
+show
+jump
+> 2
+radpolicy: E06 script:2: unknown script word
+
+$ radpolicy step --hex --policy p --script s d
+# A packet without a secret.
+< s
+
+> 2
+radpolicy: E02: option value
+";

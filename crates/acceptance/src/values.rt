@@ -1,213 +1,184 @@
 //! Runs on requests whose names and values are written as people write them.
 
-use crate::commands::{RUN, RUN_TAGGED, RUN_TYPES};
-use crate::runs::Run;
-
-pub const VALUES: [Run; 21] = [
-    (
-        RUN_TYPES,
-        b"Ty-S = 0x10",
-        b"",
-        0,
-        b"request
+/// Requests, policies, and the reports or the line of a fault.
+pub const VALUES: &str = "
+$ radpolicy run --policy p t
+< -
+Ty-S = 0x10
+> 0
+request
   Ty-S = 16
 reply
 control
 result ok
-",
-    ),
-    (
-        RUN_TYPES,
-        b"Ty-G = -1",
-        b"",
-        0,
-        b"request
+
+$ radpolicy run --policy p t
+< -
+Ty-G = -1
+> 0
+request
   Ty-G = -1
 reply
 control
 result ok
-",
-    ),
-    (
-        RUN_TYPES,
-        b"Ty-L = 18446744073709551615",
-        b"",
-        0,
-        b"request
+
+$ radpolicy run --policy p t
+< -
+Ty-L = 18446744073709551615
+> 0
+request
   Ty-L = 18446744073709551615
 reply
 control
 result ok
-",
-    ),
-    (
-        RUN_TYPES,
-        b"Ty-E = 00:1A:2b:3c:4d:5e",
-        b"",
-        0,
-        b"request
+
+$ radpolicy run --policy p t
+< -
+Ty-E = 00:1A:2b:3c:4d:5e
+> 0
+request
   Ty-E = 00:1a:2b:3c:4d:5e
 reply
 control
 result ok
-",
-    ),
-    (
-        RUN_TYPES,
-        b"Ty-D = 60",
-        b"",
-        0,
-        b"request
+
+$ radpolicy run --policy p t
+< -
+Ty-D = 60
+> 0
+request
   Ty-D = 60
 reply
 control
 result ok
-",
-    ),
-    (
-        RUN_TYPES,
-        b"Ty-U = 10",
-        b"",
-        0,
-        b"request
+
+$ radpolicy run --policy p t
+< -
+Ty-U = 10
+> 0
+request
   Ty-U = 0x3130
 reply
 control
 result ok
-",
-    ),
-    (
-        RUN_TYPES,
-        b"Ty-B = 256",
-        b"",
-        2,
-        b"radpolicy: E30 request:1: not a value\n",
-    ),
-    (
-        RUN_TYPES,
-        b"Ty-G = -2147483649",
-        b"",
-        2,
-        b"radpolicy: E30 request:1: not a value\n",
-    ),
-    (
-        RUN_TYPES,
-        b"Ty-V = ::1",
-        b"",
-        2,
-        b"radpolicy: E30 request:1: not a value\n",
-    ),
-    (
-        RUN_TYPES,
-        b"Ty-T = VLAN",
-        b"",
-        2,
-        b"radpolicy: E30 request:1: not a value\n",
-    ),
-    (
-        RUN,
-        b"User-Name = \"a\\\"\\\\\\101\\n\\303\"",
-        b"",
-        0,
-        b"request
+
+$ radpolicy run --policy p t
+< -
+Ty-B = 256
+> 2
+radpolicy: E30 request:1: not a value
+
+$ radpolicy run --policy p t
+< -
+Ty-G = -2147483649
+> 2
+radpolicy: E30 request:1: not a value
+
+$ radpolicy run --policy p t
+< -
+Ty-V = ::1
+> 2
+radpolicy: E30 request:1: not a value
+
+$ radpolicy run --policy p t
+< -
+Ty-T = VLAN
+> 2
+radpolicy: E30 request:1: not a value
+
+$ radpolicy run --policy p d
+< -
+User-Name = \"a\\\"\\\\\\101\\n\\303\"
+> 0
+request
   User-Name = \"a\\\"\\\\A\\n\\303\"
 reply
 control
 result ok
-",
-    ),
-    (
-        RUN,
-        b"Attr-4 = 0xc0a80101",
-        b"",
-        0,
-        b"request
+
+$ radpolicy run --policy p d
+< -
+Attr-4 = 0xc0a80101
+> 0
+request
   NAS-IP-Address = 192.168.1.1
 reply
 control
 result ok
-",
-    ),
-    (
-        RUN,
-        b"Attr-4 = 0x01",
-        b"",
-        0,
-        b"request
+
+$ radpolicy run --policy p d
+< -
+Attr-4 = 0x01
+> 0
+request
   Attr-4 = 0x01
 reply
 control
 result ok
-",
-    ),
-    (
-        RUN,
-        b"Service-Type = Nosuch",
-        b"",
-        2,
-        b"radpolicy: E30 request:1: not a value\n",
-    ),
-    (
-        RUN,
-        b"NAS-Port = 4294967296",
-        b"",
-        2,
-        b"radpolicy: E30 request:1: not a value\n",
-    ),
-    (
-        RUN,
-        b"Attr-26 = 0x00",
-        b"",
-        2,
-        b"radpolicy: E33 request:1: not writable\n",
-    ),
-    (
-        RUN,
-        b"Nosuch = 1",
-        b"",
-        2,
-        b"radpolicy: E32 request:1: unknown attribute\n",
-    ),
-    (
-        RUN,
-        b"User-Name \"x\"",
-        b"",
-        2,
-        b"radpolicy: E36 request:1: unreadable line\n",
-    ),
-    (
-        RUN,
-        b"User-Name = \"x\"\n\nNAS-Port = 1",
-        b"",
-        2,
-        b"radpolicy: E34 request:3: second packet\n",
-    ),
-    // Octets that a type does not read are printed by number.
-    (
-        RUN_TAGGED,
-        b"Tunnel-Type = 0x00000001",
-        b"",
-        0,
-        b"request
+
+$ radpolicy run --policy p d
+< -
+Service-Type = Nosuch
+> 2
+radpolicy: E30 request:1: not a value
+
+$ radpolicy run --policy p d
+< -
+NAS-Port = 4294967296
+> 2
+radpolicy: E30 request:1: not a value
+
+$ radpolicy run --policy p d
+< -
+Attr-26 = 0x00
+> 2
+radpolicy: E33 request:1: not writable
+
+$ radpolicy run --policy p d
+< -
+Nosuch = 1
+> 2
+radpolicy: E32 request:1: unknown attribute
+
+$ radpolicy run --policy p d
+< -
+User-Name \"x\"
+> 2
+radpolicy: E36 request:1: unreadable line
+
+$ radpolicy run --policy p d
+< -
+User-Name = \"x\"
+
+NAS-Port = 1
+> 2
+radpolicy: E34 request:3: second packet
+
+$ radpolicy run --policy p v
+# Octets that a type does not read are printed by number.
+< -
+Tunnel-Type = 0x00000001
+> 0
+request
   Tunnel-Type = 0x00000001
 reply
 control
 result ok
-",
-    ),
-    (
-        RUN,
-        b"User-Name = bob",
-        b"update reply {
+
+$ radpolicy run --policy p d
+< -
+User-Name = bob
+< p
+update reply {
 \tService-Type := Login-User
 \tLogin-Service := Telnet
 \tLogin-IP-Host := 192.168.1.3
 \tReply-Message += \"it's \\%fine\"
 \tcontrol:Cisco-AVPair += 'a=b'
 }
-",
-        0,
-        b"request
+
+> 0
+request
   User-Name = \"bob\"
 reply
   Service-Type = Login-User
@@ -217,6 +188,4 @@ reply
 control
   Cisco-AVPair = \"a=b\"
 result ok
-",
-    ),
-];
+";
