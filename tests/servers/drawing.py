@@ -1,10 +1,11 @@
 """Policies and requests at random. What is never drawn is a list in SERVER.md, each row with its reason."""
 import random
-from typing import Dict, List, Sequence
+from typing import Dict, List, Sequence, Union
 
 from servers.trees import (
-    ADDRESS, ETHERNET, NUMBER, OCTETS, SIGNED, STRING, Asked, Attribute, Block, Branch, Call, Case, Compare, Condition,
-    Group, If, Joined, Line, Literal, Not, Own, Part, Present, Return, Statement, Switch, Text, Update, Value,
+    ADDRESS, ETHERNET, NUMBER, OCTETS, SIGNED, STRING, Asked, Attribute, Block, Branch, Call, Captured, Case, Compare,
+    CompareTexts, Condition, Group, If, Joined, Line, Literal, Match, Not, Own, Part, Pattern, Present, Return,
+    Statement, Switch, Text, Update, Value,
 )
 
 MOST_DEPTH = 4
@@ -33,6 +34,15 @@ SENT = {
 # Of these types no texts are read.
 WITHOUT_TEXTS = (SIGNED, ETHERNET)
 PIECES = ("a", "b", "1", "x@y", ".")
+# Both engines agree on these; what they capture has no sign, and is no `0x` by itself.
+PATTERNS = (
+    Pattern("^(.)(.*)$", ""), Pattern("^(b?)(.)", ""), Pattern("(b)(o)?", ""), Pattern("^([^@]+)@([^.]+)", ""),
+    Pattern("(x)|(7)|(0)", ""), Pattern("^([A-Za-z]+)-([A-Z])", ""), Pattern("([0-9])$", ""), Pattern("B(O)B", "i"),
+    Pattern("^0x(..)", ""), Pattern("^([0-9]+)\\.([0-9]+)", ""), Pattern("^(?:(1)|(2)|a(.))", "m"), Pattern("e", ""),
+    Pattern("^$", ""), Pattern("(F[a-z]+|l+)", ""), Pattern("(.)(.)$", "im"), Pattern("bob|alice|x|7", ""),
+)
+# The groups that some of them have, and one that none has.
+GROUPS = (0, 0, 1, 1, 1, 2, 2, 3, 9)
 OPERATORS = (":=", ":=", ":=", "=", "+=", "+=", "^=", "-=", "==", "!*")
 RELATIONS = ("==", "==", "!=", "<", "<=", ">", ">=")
 CODES = ("reject", "fail", "ok", "handled", "invalid", "userlock", "notfound", "noop", "updated")
@@ -74,9 +84,10 @@ class Drawing:
         put into texts for strings and numbers: as a number they may be too great."""
         if kind == ADDRESS:
             return Text([self.attribute(ADDRESS)], kind)
+        captured = self.captured() if self.chance.random() < 0.25 else None
         if kind == OCTETS:
-            return Text([self.attribute(self.kind())], kind)
-        put: Part = self.attribute(self.chance.choice((STRING, STRING, NUMBER, ADDRESS)))
+            return Text([captured or self.attribute(self.kind())], kind)
+        put: Part = captured or self.attribute(self.chance.choice((STRING, STRING, NUMBER, ADDRESS)))
         if kind == NUMBER:
             return Text([put], kind)
         parts: List[Part] = [put]
@@ -106,7 +117,59 @@ class Drawing:
         first, other = (Attribute("request", name, ADDRESS) for name in names)
         return Compare(first, self.chance.choice(("==", "!=", "<", "<=", "<=", ">", ">=")), Text([other], ADDRESS))
 
+    def captured(self) -> Captured:
+        return Captured(self.chance.choice(GROUPS))
+
+    def sent(self) -> Attribute:
+        kind = self.chance.choice((STRING, STRING, STRING, NUMBER, ADDRESS, OCTETS))
+        return Attribute("request", self.chance.choice(SENT[kind]), kind)
+
+    def match_of(self, searched: Union[Attribute, Text, Captured]) -> Match:
+        sign = "!~" if self.chance.random() < 0.3 else "=~"
+        return Match(searched, sign, self.chance.choice((*PATTERNS, *PATTERNS[:5])))
+
+    def match_of_group(self) -> Match:
+        return self.match_of(Captured(self.chance.choice((0, 0, 1, 2))))
+
+    def match(self) -> Match:
+        share = self.chance.random()
+        if share < 0.15:
+            return self.match_of_group()
+        attribute = self.sent() if self.chance.random() < 0.6 else self.attribute(self.kind())
+        return self.match_of(Text([attribute], STRING) if share < 0.35 else attribute)
+
+    def numbers(self) -> CompareTexts:
+        """Two texts that are digits alone where the attribute is there."""
+        parts: List[Part] = [Attribute("request", "NAS-Port", NUMBER), self.chance.choice(("0", "1", "7"))]
+        self.chance.shuffle(parts)
+        put = Text([self.captured()] if self.chance.random() < 0.4 else parts, STRING)
+        literal = Text([self.chance.choice(("0", "0", "7", "8", "10", "60"))], STRING)
+        left, right = (put, literal) if self.chance.random() < 0.7 else (literal, put)
+        return CompareTexts(left, self.chance.choice(RELATIONS), right)
+
+    def texts(self) -> CompareTexts:
+        """At least one of the two has something put in: of others the server's parser makes a constant."""
+        if self.chance.random() < 0.4:
+            return self.numbers()
+        texts = [self.text(STRING), self.text(STRING)]
+        if self.chance.random() < 0.5:
+            literal = self.chance.choice((*VALUES[STRING], *VALUES[NUMBER], "07", "b", "1bob"))
+            texts[self.chance.randrange(2)] = Text([literal], STRING)
+        left, right = texts
+        (first, *others), literals = left.parts, [part for part in right.parts if isinstance(part, str)]
+        if not others and isinstance(first, Attribute) and len(literals) == len(right.parts):
+            left = Text([Attribute(first.list, self.chance.choice(NAMES[STRING]), STRING)], STRING)
+        return CompareTexts(left, self.chance.choice(RELATIONS), right)
+
+    def asking_of_texts(self) -> Condition:
+        share = self.chance.random()
+        if share < 0.65:
+            return self.match()
+        return self.captured() if share < 0.75 else self.texts()
+
     def question(self) -> Condition:
+        if self.chance.random() < 0.25:
+            return self.asking_of_texts()
         share = self.chance.random()
         if share < 0.1:
             return self.prefixes()
@@ -200,6 +263,17 @@ class Drawing:
         asked = Compare(attribute, self.chance.choice(RELATIONS), self.literal(attribute))
         return Group("", Block([], [added, If([Branch(asked, self.block(depth - 2))], None)]))
 
+    def capturing(self, depth: int) -> Group:
+        """A comparison with a pattern, what is asked behind it, and lines that put in what was captured."""
+        attribute = Attribute(self.chance.choice(LISTS[1:]), self.chance.choice(NAMES[STRING]), STRING)
+        groups = self.chance.sample((0, 1, 2, 3), 2)
+        lines = [Line(attribute, "+=", Text([Captured(group)], STRING)) for group in groups]
+        pattern = self.chance.choice((*PATTERNS[:2], *PATTERNS[:6]))
+        first = Branch(Match(self.sent(), "=~", pattern), Block([], [Update(lines), *self.block(depth - 2).statements]))
+        condition = self.chance.choice((self.match, self.match_of_group, self.captured, self.captured, self.texts))()
+        behind = If([Branch(condition, Block([], [Update(lines)]))], Block([], [Update(lines[:1])]))
+        return Group("", Block([], [If([first], None), behind]))
+
     def switch(self, depth: int) -> Switch:
         attribute = self.seen(self.kind())
         values = [self.literal(attribute) for _ in range(self.chance.randrange(1, 4))]
@@ -210,9 +284,11 @@ class Drawing:
 
     def statement(self, depth: int) -> Statement:
         share = self.chance.random()
-        if share < 0.08 and depth > 1:
-            return self.comparing(depth) if share < 0.02 else self.asking(depth)
-        if share < 0.45 and depth:
+        if share < 0.14 and depth > 1:
+            if share < 0.06:
+                return self.capturing(depth)
+            return self.comparing(depth) if share < 0.08 else self.asking(depth)
+        if share < 0.48 and depth:
             return self.chance.choice((self.choice, self.choice, self.group, self.switch))(depth)
         if share < 0.6:
             return self.call()

@@ -18,8 +18,15 @@ class Attribute:
         return f"&{self.list}:{self.name}"
 
 
-# A part of a text: itself, or an attribute that is put in.
-Part = Union[str, Attribute]
+@dataclass(frozen=True)
+class Captured:
+    """What was captured of a group, put into a text; by itself a condition."""
+
+    group: int
+
+
+# A part of a text: itself, an attribute that is put in, or what was captured.
+Part = Union[str, Attribute, Captured]
 
 
 @dataclass(frozen=True)
@@ -96,6 +103,32 @@ class Compare:
 
 
 @dataclass(frozen=True)
+class CompareTexts:
+    """A comparison of two texts."""
+
+    left: Text
+    relation: str
+    right: Text
+
+
+@dataclass(frozen=True)
+class Pattern:
+    """A pattern by its text and its flags."""
+
+    text: str
+    flags: str
+
+
+@dataclass(frozen=True)
+class Match:
+    """A comparison with a pattern, by `=~` or `!~`: of an attribute, of a text that is it alone, or of a group."""
+
+    searched: Union[Attribute, Text, Captured]
+    sign: str
+    pattern: Pattern
+
+
+@dataclass(frozen=True)
 class Not:
     inner: "Condition"
 
@@ -110,7 +143,7 @@ class Joined:
     in_brackets: bool
 
 
-Condition = Union[Asked, Present, Compare, Not, Joined]
+Condition = Union[Asked, Present, Compare, CompareTexts, Match, Captured, Not, Joined]
 
 
 @dataclass(frozen=True)
@@ -162,13 +195,20 @@ Statement = Union[Update, Call, If, Group, Switch, Return]
 
 # ---- in the server's language
 
-def value_in_words(value: Value) -> str:
+def part_in_words(part: Part) -> str:
+    if isinstance(part, str):
+        return part
+    return f"%{{{part.group}}}" if isinstance(part, Captured) else f"%{{{part.list}:{part.name}}}"
+
+
+def value_in_words(value: Union[Value, Captured]) -> str:
     if isinstance(value, Attribute):
         return value.reference
+    if isinstance(value, Captured):
+        return f'"{part_in_words(value)}"'
     if isinstance(value, Literal):
         return f'"{value.text}"' if value.kind == STRING else value.text
-    parts = [part if isinstance(part, str) else f"%{{{part.list}:{part.name}}}" for part in value.parts]
-    return '"' + "".join(parts) + '"'
+    return '"' + "".join(map(part_in_words, value.parts)) + '"'
 
 
 def line_in_words(line: Line) -> str:
@@ -183,6 +223,13 @@ def condition_in_words(condition: Condition) -> str:
         return condition.attribute.reference
     if isinstance(condition, Compare):
         return f"{condition.attribute.reference} {condition.relation} {value_in_words(condition.value)}"
+    if isinstance(condition, CompareTexts):
+        return f"{value_in_words(condition.left)} {condition.relation} {value_in_words(condition.right)}"
+    if isinstance(condition, Captured):
+        return value_in_words(condition)
+    if isinstance(condition, Match):
+        pattern = condition.pattern
+        return f"{value_in_words(condition.searched)} {condition.sign} /{pattern.text}/{pattern.flags}"
     if isinstance(condition, Not):
         inner = condition_in_words(condition.inner)
         return f"!{inner}" if isinstance(condition.inner, (Asked, Present)) else f"!({inner})"
@@ -261,13 +308,22 @@ def digits(text: str) -> str:
     return text.encode("latin-1").hex()
 
 
+def part_fields(part: Part) -> str:
+    if isinstance(part, str):
+        return digits(part)
+    return f"group.{part.group}" if isinstance(part, Captured) else f"{part.list}.{part.name}"
+
+
+def parts_fields(text: Text) -> str:
+    return "/".join(map(part_fields, text.parts))
+
+
 def value_fields(value: Value) -> str:
     if isinstance(value, Attribute):
         return f"instance:{value.list}:{value.name}"
     if isinstance(value, Literal):
         return f"literal:{digits(value.text)}"
-    parts = [digits(part) if isinstance(part, str) else f"{part.list}.{part.name}" for part in value.parts]
-    return f"text:{value.kind}:{'/'.join(parts)}"
+    return f"text:{value.kind}:{parts_fields(value)}"
 
 
 def compared_fields(value: Value) -> str:
@@ -286,6 +342,26 @@ def line_fields(line: Line) -> str:
     return f"line {line.attribute.list}:{line.attribute.name}:{operator}:{value}"
 
 
+def texts_fields(comparison: CompareTexts) -> str:
+    """Beside a text without expansions an expansion of an attribute by itself is that attribute."""
+    left, right = comparison.left.parts, comparison.right.parts
+    if len(left) == 1 and isinstance(left[0], Attribute) and all(isinstance(part, str) for part in right):
+        literal = Literal("".join(map(str, right)), left[0].kind)
+        return f"compare:{left[0].list}:{left[0].name}:{comparison.relation}:{value_fields(literal)}"
+    return f"texts:{parts_fields(comparison.left)}:{comparison.relation}:{parts_fields(comparison.right)}"
+
+
+def match_fields(match: Match) -> str:
+    rest = f"{match.sign}:{match.pattern.flags}:{digits(match.pattern.text)}"
+    if isinstance(match.searched, Captured):
+        return f"match-group:{match.searched.group}:{rest}"
+    if isinstance(match.searched, Attribute):
+        return f"match:{match.searched.list}:{match.searched.name}:{rest}"
+    (part,) = match.searched.parts
+    assert isinstance(part, Attribute)
+    return f"match-text:{part.list}:{part.name}:{rest}"
+
+
 def condition_fields(condition: Condition) -> List[str]:
     if isinstance(condition, Asked):
         return [f"code:{condition.code}"]
@@ -294,6 +370,12 @@ def condition_fields(condition: Condition) -> List[str]:
     if isinstance(condition, Compare):
         attribute = condition.attribute
         return [f"compare:{attribute.list}:{attribute.name}:{condition.relation}:{compared_fields(condition.value)}"]
+    if isinstance(condition, CompareTexts):
+        return [texts_fields(condition)]
+    if isinstance(condition, Captured):
+        return [f"captured:{condition.group}"]
+    if isinstance(condition, Match):
+        return [match_fields(condition)]
     if isinstance(condition, Not):
         return [*condition_fields(condition.inner), "not"]
     sign = {"&&": "and", "||": "or"}[condition.sign]

@@ -1,11 +1,15 @@
-//! Conditions as words: what is asked for, and behind it `not`, `and` and `or`.
+//! Conditions as words: what is asked for, and behind it `not`, `and` and `or`. Of patterns is asked by
+//! `match:LIST:NAME:SIGN:FLAGS:DIGITS`, where SIGN is `=~` or `!~`, by `match-text` with the same fields, and by
+//! `match-group:NUMBER:SIGN:FLAGS:DIGITS`.
 
 use crate::words::{
-    bad, code_of, fields, id_of, list_of, parts_of, relation_of, type_of, value_of,
+    bad, code_of, fields, flags_of, group_of, id_of, is_negated, list_of, octets_of, parts_of,
+    relation_of, type_of, value_of,
 };
 use avp_dict::Dictionary;
-use avp_lists::AttrId;
-use server_unlang::{ServerComparand, ServerComparison, ServerCondition};
+use avp_lists::{AttrId, Octets, Selection};
+use avp_unlang::{GroupMatching, Matching};
+use server_unlang::{ServerComparand, ServerComparison, ServerCondition, ServerTextComparison};
 use std::alloc::Global;
 use std::io;
 
@@ -32,6 +36,47 @@ fn comparand_of(
     }
 }
 
+// A comparison of an attribute with a pattern.
+fn matching_of(alloc: Global, dictionary: &Dictionary, words: &[&[u8]]) -> io::Result<Matching> {
+    let [list, name, sign, flags, digits] = words else {
+        return bad();
+    };
+    Ok(Matching {
+        list: list_of(list)?,
+        id: id_of(dictionary, name)?,
+        selection: Selection::All,
+        negated: is_negated(sign)?,
+        pattern: Octets::from_vec(octets_of(alloc, digits)?),
+        flags: flags_of(flags),
+    })
+}
+
+// A question that looks at what was captured, or captures.
+fn matching_question(
+    alloc: Global,
+    dictionary: &Dictionary,
+    words: &[&[u8]],
+) -> io::Result<ServerCondition> {
+    match words {
+        [b"match", words @ ..] => Ok(ServerCondition::Match(matching_of(
+            alloc, dictionary, words,
+        )?)),
+        [b"match-text", words @ ..] => Ok(ServerCondition::MatchText(matching_of(
+            alloc, dictionary, words,
+        )?)),
+        [b"match-group", group, sign, flags, digits] => {
+            Ok(ServerCondition::MatchGroup(GroupMatching {
+                group: group_of(group)?,
+                negated: is_negated(sign)?,
+                pattern: Octets::from_vec(octets_of(alloc, digits)?),
+                flags: flags_of(flags),
+            }))
+        }
+        [b"captured", group] => Ok(ServerCondition::Captured(group_of(group)?)),
+        _ => bad(),
+    }
+}
+
 // One question, its fields with `:` between.
 fn question(alloc: Global, dictionary: &Dictionary, word: &[u8]) -> io::Result<ServerCondition> {
     match fields(alloc, word, b':')?.as_slice() {
@@ -49,7 +94,14 @@ fn question(alloc: Global, dictionary: &Dictionary, word: &[u8]) -> io::Result<S
                 comparand: comparand_of(alloc, dictionary, id, comparand)?,
             }))
         }
-        _ => bad(),
+        [b"texts", left, relation, right] => {
+            Ok(ServerCondition::CompareTexts(ServerTextComparison {
+                left: parts_of(alloc, dictionary, left)?,
+                relation: relation_of(relation)?,
+                right: parts_of(alloc, dictionary, right)?,
+            }))
+        }
+        words => matching_question(alloc, dictionary, words),
     }
 }
 

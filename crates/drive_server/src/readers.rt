@@ -9,7 +9,8 @@
 //! - `call CODE CODE=ACTION..`; `return`;
 //! - `request`, `pair LIST NAME DIGITS`, and `run`, which prints what the policy leaves.
 //!
-//! DIGITS are the hexadecimal ones of a text.
+//! A CONDITION is what `conditions` reads. DIGITS are the hexadecimal ones of a text; PARTS have `/` between, and each is
+//! DIGITS, `LIST.NAME` or `group.NUMBER`.
 
 use crate::answers::write_answer;
 use crate::conditions::condition_of;
@@ -21,7 +22,8 @@ use avp_dict::Dictionary;
 use avp_lists::{AttrId, List, Octets, Pair, Pairs, State, Value};
 use avp_unlang::Items;
 use server_unlang::{
-    Section, Server, ServerCondition, ServerLine, ServerSource, ServerStatement, run_server,
+    RunFault, Section, Server, ServerCondition, ServerLine, ServerSource, ServerStatement,
+    no_captures, run_server,
 };
 use std::alloc::Global;
 use std::io;
@@ -208,8 +210,12 @@ impl<'a> Reader<'a> {
             section: self.section,
         };
         let statements = self.blocks.statements()?;
-        let frame = run_server(&server, statements, given.into_state())?;
-        write_answer(out, self.alloc, self.dictionary, &frame)
+        let captures = no_captures(self.alloc)?;
+        match run_server(&server, statements, given.into_state(), captures) {
+            Ok(frame) => write_answer(out, self.alloc, self.dictionary, &frame),
+            Err(RunFault::Memory) => Err(io::ErrorKind::OutOfMemory.into()),
+            Err(_) => bad(),
+        }
     }
 
     pub fn read_line<W: Write>(&mut self, line: &[u8], out: &mut W) -> io::Result<()> {

@@ -2,6 +2,7 @@
 
 use avp_dict::{Dictionary, Named};
 use avp_lists::{AttrId, List, Octets, Op, Value};
+use avp_patterns::PatternFlags;
 use avp_unlang::{Items, Relation};
 use server_unlang::{Action, OwnAction, Section, ServerCode, ServerPart, ServerParts, TextType};
 use std::alloc::Global;
@@ -137,10 +138,36 @@ pub fn value_of(
         .map_err(|_| io::ErrorKind::InvalidData.into())
 }
 
-// Digits of a text, or a list and a name with `.` between.
+/// The number of a group.
+pub fn group_of(word: &[u8]) -> io::Result<u8> {
+    match word {
+        [digit @ b'0'..=b'9'] => Ok(*digit - b'0'),
+        _ => bad(),
+    }
+}
+
+/// The flags of a pattern, each as its letter.
+pub fn flags_of(word: &[u8]) -> PatternFlags {
+    PatternFlags {
+        ignore_case: word.contains(&b'i'),
+        multi_line: word.contains(&b'm'),
+    }
+}
+
+/// Whether a pattern may not match.
+pub fn is_negated(sign: &[u8]) -> io::Result<bool> {
+    match sign {
+        b"=~" => Ok(false),
+        b"!~" => Ok(true),
+        _ => bad(),
+    }
+}
+
+// Digits of a text, `group` and a number, or a list and a name, each two with `.` between.
 fn part_of(alloc: Global, dictionary: &Dictionary, word: &[u8]) -> io::Result<ServerPart> {
     match fields(alloc, word, b'.')?.as_slice() {
         [digits] => Ok(ServerPart::Text(Octets::from_vec(octets_of(alloc, digits)?))),
+        [b"group", number] => Ok(ServerPart::Capture(group_of(number)?)),
         [list, name] => Ok(ServerPart::Instance(list_of(list)?, id_of(dictionary, name)?)),
         _ => bad(),
     }

@@ -2,7 +2,7 @@
 use Rattle.std.proofs.Common.{◌≡◌, Bool, true, false, ◌==◌, List, [], ◌∷◌, refl, sym, ap, ◌∙◌, arith, length, map, ne_eqb}
 use Rattle.avp_lists.specs.declared.lists.List.{List as Name}
 use Rattle.avp_lists.specs.declared.pairs.AttrId.{AttrId}
-use Rattle.server_unlang.specs.Frames.{entered, frame, left}
+use Rattle.server_unlang.specs.Frames.{at_place, entered, left}
 use Rattle.server_unlang.specs.Lines.{update_run}
 use Rattle.server_unlang.specs.Running.{Case, Choice, Run, after_case, after_inner, after_update, block_run, branch_choice, case_choice, case_of, case_run, choice, empty_case, first_true, in_order, run, statement_run, switch_run, with_code}
 use Rattle.server_unlang.specs.Settings.{Setting}
@@ -19,7 +19,7 @@ use Rattle.server_unlang.specs.declared.tree.ServerStatement.TheOpen.{ServerStat
 use Rattle.server_unlang.specs.declared.tree.ServerStatement.TheVariants.{Update, If, Group, Switch, Call, Return, rolls-Update, rolls-If, rolls-Group, rolls-Switch, rolls-Call, rolls-Return}
 use Rattle.server_unlang.specs.declared.tree.ServerStatement.TheViews.{out-ServerBranch, out-ServerCase}
 
-pub run_update : (w : Setting) (lines : List ServerLine) (f : Frame) → run w (Update lines) f ≡ after_update w (update_run w lines f.state) f
+pub run_update : (w : Setting) (lines : List ServerLine) (f : Frame) → run w (Update lines) f ≡ after_update w (update_run w f.captures lines f.state) f
 unfolding run
 run_update w lines f =
     ap (λ s. run w s f) (sym (rolls-Update lines))
@@ -46,7 +46,7 @@ run_switch w list id cases f =
     ∙ ap (λ (r : Run). r f) (fold-roll-ServerStatement Run Choice Case (statement_run w) branch_choice case_of (layer.Switch list id cases))
 
 pub run_call : (w : Setting) (c : ServerCode) (actions : List OwnAction) (f : Frame)
-    → run w (Call c actions) f ≡ record f { place = with_code w actions c f.place }
+    → run w (Call c actions) f ≡ at_place (with_code w actions c f.place) f
 unfolding run
 run_call w c actions f =
     ap (λ s. run w s f) (sym (rolls-Call c actions))

@@ -2,6 +2,7 @@
 use Rattle.std.specs.Prelude.{Bool, true, false, ◌||◌, nat_lt, if◌then◌else◌, None, Some}
 use Rattle.std.specs.Option.{unwrap_or}
 use Rattle.avp_lists.specs.declared.lists.State.{State}
+use Rattle.avp_unlang.specs.Captures.{Captures}
 use Rattle.server_unlang.specs.declared.codes.Action.{Action}
 use Rattle.server_unlang.specs.declared.codes.Action.TheVariants as action
 use Rattle.server_unlang.specs.declared.codes.ServerCode.{ServerCode}
@@ -31,13 +32,18 @@ with_action (action.Priority n) c p =
 abbrev pub with_inner : Place → Place → Place
 with_inner p inner = record p { has_left = p.has_left || inner.has_left }
 
-abbrev pub frame : State → Place → Frame
-frame s p = record { state = s; place = p }
+abbrev pub frame : State → Captures → Place → Frame
+frame s captures p = record { state = s; captures = captures; place = p }
+
+-- the same lists, and what was captured, at another place: nothing of it hangs on blocks or sections, since a server
+-- keeps it with the request (`regex_sub_to_request`, regex.c)
+abbrev pub at_place : Place → Frame → Frame
+at_place p f = record f { place = p }
 
 -- what a block in this one begins with: its lists and its code (`modcall_child`, modcall.c)
 abbrev pub entered : Frame → Frame
-entered f = frame f.state (begun f.place.code)
+entered f = at_place (begun f.place.code) f
 
 -- the section is left (`MOD_RETURN` in `modcall_recurse`, modcall.c)
 abbrev pub left : Frame → Frame
-left f = frame f.state (record f.place { has_ended = true; has_left = true })
+left f = at_place (record f.place { has_ended = true; has_left = true }) f

@@ -7,6 +7,7 @@ use Rattle.avp_lists.specs.declared.pairs.AttrId.{AttrId}
 use Rattle.avp_lists.specs.declared.pairs.Pair.{Pair}
 use Rattle.avp_lists.specs.declared.pairs.Value.{Value}
 use Rattle.avp_lists.specs.declared.pairs.Value.TheVariants.{Raw}
+use Rattle.avp_unlang.specs.Captures.{Captures}
 use Rattle.avp_unlang.specs.Resolutions.{pair_of}
 use Rattle.server_unlang.specs.Edits.{server_apply}
 use Rattle.server_unlang.specs.Settings.{Setting}
@@ -32,12 +33,12 @@ read (Some value) = Given value
 
 -- what a source gives under the name of an attribute (`map_to_vp`, map.c); what follows `!*` gives no octets, of which
 -- none is looked at
-abbrev pub sourced : Setting → AttrId → ServerSource → State → Sourced
-sourced w id (Literal value) s = Given value
-sourced w id (Instance list other) s = copied (first_instance other (list_of list s))
-sourced w id (Text type parts) s =
-    read (text_value w.dictionary id type (parts_text w.dictionary s parts))
-sourced w id Any s = Given (Raw [])
+abbrev pub sourced : Setting → Captures → AttrId → ServerSource → State → Sourced
+sourced w captures id (Literal value) s = Given value
+sourced w captures id (Instance list other) s = copied (first_instance other (list_of list s))
+sourced w captures id (Text type parts) s =
+    read (text_value w.dictionary id type (parts_text w.dictionary s captures parts))
+sourced w captures id Any s = Given (Raw [])
 
 -- the state with the edit of a line (`map_to_request`, map.c)
 abbrev pub with_value : Setting → ServerLine → Value → State → State
@@ -56,7 +57,7 @@ after_line w line s Failed others = updated s Fail
 
 -- One line after the other. One that fails ends the update, and what the lines before it made stays (`MOD_UPDATE` in
 -- `modcall_recurse`, modcall.c).
-abbrev pub update_run : Setting → List ServerLine → State → Updated
-update_run w [] s = updated s Noop
-update_run w (line ∷ lines) s =
-    after_line w line s (sourced w line.id line.source s) (update_run w lines)
+abbrev pub update_run : Setting → Captures → List ServerLine → State → Updated
+update_run w captures [] s = updated s Noop
+update_run w captures (line ∷ lines) s =
+    after_line w line s (sourced w captures line.id line.source s) (update_run w captures lines)

@@ -6,13 +6,15 @@ use Rattle.avp_lists.specs.declared.lists.List.{List as Name}
 use Rattle.avp_lists.specs.declared.lists.State.{State}
 use Rattle.avp_lists.specs.declared.pairs.AttrId.{AttrId}
 use Rattle.avp_lists.specs.declared.pairs.Value.{Value}
+use Rattle.avp_unlang.specs.Captures.{Captures}
 use Rattle.avp_unlang.specs.Truth.{first_value}
 use Rattle.avp_unlang.specs.declared.tree.Relation.TheVariants.{Equal}
 use Rattle.server_unlang.specs.Answers.{answer, compared, is_true}
 use Rattle.server_unlang.specs.Codes.{default_action, first_code, is_code}
-use Rattle.server_unlang.specs.Frames.{asked_code, begun, entered, frame, left, with_action, with_inner}
+use Rattle.server_unlang.specs.Frames.{asked_code, at_place, begun, entered, frame, left, with_action, with_inner}
 use Rattle.server_unlang.specs.Lines.{update_run}
 use Rattle.server_unlang.specs.Settings.{Setting}
+use Rattle.server_unlang.specs.declared.answering.Answered.{Answered}
 use Rattle.server_unlang.specs.declared.codes.Action.{Action}
 use Rattle.server_unlang.specs.declared.codes.Action.TheVariants as action
 use Rattle.server_unlang.specs.declared.codes.ServerCode.{ServerCode}
@@ -58,7 +60,7 @@ in_order (r ∷ rs) f = if f.place.has_ended then f else in_order rs (r f)
 -- what a block in another one leaves of that one: its lists, its code by these actions, and that the section was left
 abbrev pub after_inner : Setting → List OwnAction → Place → Frame → Frame
 after_inner w actions outer inner =
-    frame inner.state (with_code w actions inner.place.code (with_inner outer inner.place))
+    at_place (with_code w actions inner.place.code (with_inner outer inner.place)) inner
 
 -- a block in another one (`do_children` in `modcall_recurse`, modcall.c); one without statements does nothing
 abbrev pub block_run : Setting → List OwnAction → List Run → Run
@@ -74,12 +76,21 @@ pub record Choice : Type 0 where
   pub actions : List OwnAction
   pub block : List Run
 
+-- a condition asked in a frame
+abbrev pub asked : Setting → ServerCondition → Frame → Answered
+asked w condition f = answer w condition f.state (asked_code f.place) f.captures
+
+-- what a condition captured stays, whatever its answer (`regex_sub_to_request`, regex.c)
+abbrev pub after_asking : Setting → ServerCondition → Run
+after_asking w condition f = record f { captures = (asked w condition f).captures }
+
 -- the first branch whose condition is true (`MOD_IF`, `MOD_ELSIF` and `MOD_ELSE` in `modcall_recurse`, modcall.c)
 abbrev pub first_true : Setting → List Choice → Run
 first_true w [] f = f
 first_true w (b ∷ bs) f =
-    if is_true (answer w b.condition f.state (asked_code f.place)) then block_run w b.actions b.block f
-    else first_true w bs f
+    if is_true (asked w b.condition f).answer
+    then block_run w b.actions b.block (after_asking w b.condition f)
+    else first_true w bs (after_asking w b.condition f)
 
 -- ---- `switch` (`MOD_SWITCH` in `modcall_recurse`, modcall.c)
 
@@ -91,11 +102,11 @@ pub record Case : Type 0 where
 -- A case has a frame of its own, which ends with its code, whatever actions are written in it (`do_compile_modcase`,
 -- modcall.c). One without statements results in `noop`.
 abbrev pub empty_case : Run
-empty_case x = frame x.state (with_action action.Return Noop x.place)
+empty_case x = at_place (with_action action.Return Noop x.place) x
 
 abbrev pub after_case : Place → Frame → Frame
 after_case outer inner =
-    frame inner.state (with_action action.Return inner.place.code (with_inner outer inner.place))
+    at_place (with_action action.Return inner.place.code (with_inner outer inner.place)) inner
 
 abbrev pub case_run : List Run → Run
 case_run [] x = empty_case x
@@ -127,14 +138,14 @@ switch_run w list id cases f =
 -- ---- statements
 
 abbrev pub after_update : Setting → AfterUpdate → Frame → Frame
-after_update w u f = frame u.state (with_code w [] u.code f.place)
+after_update w u f = frame u.state f.captures (with_code w [] u.code f.place)
 
 abbrev pub statement_run : Setting → ServerStatement-F Run Choice Case → Run
-statement_run w (Update lines) f = after_update w (update_run w lines f.state) f
+statement_run w (Update lines) f = after_update w (update_run w f.captures lines f.state) f
 statement_run w (If branches) f = first_true w branches f
 statement_run w (Group actions block) f = block_run w actions block f
 statement_run w (Switch list id cases) f = switch_run w list id cases f
-statement_run w (Call c actions) f = record f { place = with_code w actions c f.place }
+statement_run w (Call c actions) f = at_place (with_code w actions c f.place) f
 statement_run w Return f = left f
 
 abbrev pub branch_choice : ServerBranch-F Run Choice Case → Choice
@@ -154,7 +165,7 @@ choice w = fold-ServerBranch Run Choice Case (statement_run w) branch_choice cas
 unfoldable pub case_choice : Setting → ServerCase → Case
 case_choice w = fold-ServerCase Run Choice Case (statement_run w) branch_choice case_of
 
--- what a section does
-abbrev pub server_run : Setting → List ServerStatement → State → Frame
-server_run w statements s =
-    in_order (map (run w) statements) (frame s (begun (first_code w.section)))
+-- what a section does, after what was captured before it, as in a section that the same request was in
+abbrev pub server_run : Setting → List ServerStatement → State → Captures → Frame
+server_run w statements s captures =
+    in_order (map (run w) statements) (frame s captures (begun (first_code w.section)))

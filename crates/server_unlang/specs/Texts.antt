@@ -13,9 +13,10 @@ use Rattle.avp_lists.specs.declared.pairs.Value.TheVariants as values
 use Rattle.avp_dict.specs.Dictionary.{Dictionary}
 use Rattle.avp_dict.specs.Limits.{fits}
 use Rattle.avp_dict.specs.Spellings.{value_spelled}
+use Rattle.avp_unlang.specs.Captures.{Captures, captured}
 use Rattle.avp_unlang.specs.Resolutions.{meaning_put}
 use Rattle.server_unlang.specs.declared.tree.ServerPart.{ServerPart}
-use Rattle.server_unlang.specs.declared.tree.ServerPart.TheVariants.{Instance, Text}
+use Rattle.server_unlang.specs.declared.tree.ServerPart.TheVariants.{Capture, Instance, Text}
 use Rattle.server_unlang.specs.declared.tree.TextType.{TextType}
 use Rattle.server_unlang.specs.declared.tree.TextType.TheVariants as types
 
@@ -25,14 +26,16 @@ abbrev pub instance_put : Dictionary → Pair → List ℕ
 instance_put dictionary pair =
     if fits pair dictionary then meaning_put dictionary pair else []
 
--- octets as they are, or the first instance; nothing where there is none (`xlat_aprint`, xlat.c)
-abbrev pub part_text : Dictionary → State → ServerPart → List ℕ
-part_text dictionary s (Text os) = os
-part_text dictionary s (Instance list id) =
+-- octets as they are, or the first instance; nothing where there is none (`xlat_aprint`, xlat.c); or what was captured
+-- of a group, nothing where it took no part (`regex_request_to_sub`, regex.c)
+abbrev pub part_text : Dictionary → State → Captures → ServerPart → List ℕ
+part_text dictionary s captures (Text os) = os
+part_text dictionary s captures (Instance list id) =
     option_map_or (instance_put dictionary) (first_instance id (list_of list s)) []
+part_text dictionary s captures (Capture group) = captured group captures
 
-abbrev pub parts_text : Dictionary → State → List ServerPart → List ℕ
-parts_text dictionary s parts = flat_map (part_text dictionary s) parts
+abbrev pub parts_text : Dictionary → State → Captures → List ServerPart → List ℕ
+parts_text dictionary s captures parts = flat_map (part_text dictionary s captures) parts
 
 -- The value that a text stands for under the name of an attribute, if there is one (`value_data_from_str`,
 -- lib/value.c). An empty text is the number 0, and other texts are read as ours are. That is so of texts that have no

@@ -6,19 +6,47 @@ ghost use Rattle.avp_lists.specs.Instances.{has_instance};
 ghost use Rattle.avp_lists.specs.States.{list_of};
 ghost use Rattle.avp_unlang.specs.Relations.{meets};
 ghost use Rattle.avp_unlang.specs.Truth.{first_value};
-ghost use Rattle.server_unlang.specs.Answers.{answer, compared, compared_as_prefixes, compared_beside, comparison_answer, is_true, meets_as_prefix, value_order};
+ghost use Rattle.server_unlang.specs.Answers.{answer, answered, are_texts_met, compared, compared_as_prefixes, compared_beside, comparison_answer, denied, is_true, meets_as_prefix, value_order};
 ghost use Rattle.server_unlang.specs.Codes.{is_code};
 
+use crate::captures::{Captures, captured};
 use crate::codes::ServerCode;
-use crate::conditions::{ServerComparand, ServerComparison, ServerCondition};
+use crate::conditions::{ServerComparand, ServerComparison, ServerCondition, ServerTextComparison};
 use crate::edits::has_instance;
+use crate::faults::RunFault;
+use crate::orders::text_order;
 use crate::servers::Server;
-use crate::texts::first_instance;
+use crate::texts::{first_instance, text_value};
 use crate::tree::TextType;
 use avp_lists::{State, Value};
 use avp_unlang::Relation;
 use std::alloc::AllocError;
 use std::cmp::Ordering;
+
+/// Whether a condition is true, or nothing where a comparison ended it, and what was captured by then.
+#[derive(Drop)]
+pub struct Answered {
+    pub answer: Option<bool>,
+    pub captures: Captures,
+}
+
+impl Answered {
+    pub(crate) fn of(answer: Option<bool>, captures: Captures) -> Answered
+        ensures { result ≡ answered answer captures }
+    {
+        Answered { answer, captures }
+    }
+
+    fn denied(self) -> Answered
+        ensures { result ≡ denied self }
+    {
+        let Answered { answer, captures } = self;
+        match answer {
+            Some(truth) => Answered::of(Some(!truth), captures),
+            None => Answered::of(None, captures),
+        }
+    }
+}
 
 fn is_code(code: ServerCode, other: ServerCode) -> bool
     ensures { result ≡ is_code code other }
@@ -113,9 +141,10 @@ impl Server<'_> {
         &self,
         comparison: &ServerComparison,
         state: &State,
+        captures: &Captures,
     ) -> Result<Option<bool>, AllocError>
-        ensures { IfOk result (λ answer.
-            answer ≡ comparison_answer self.now comparison.now state.now) }
+        ensures { IfOk result (λ answer. answer
+            ≡ comparison_answer self.now comparison.now state.now captures.now) }
     {
         let Some(pair) = first_instance(state, comparison.list, comparison.id) else {
             return Ok(None);
@@ -128,7 +157,8 @@ impl Server<'_> {
                 None => Ok(None),
             },
             ServerComparand::Text(kind, parts) => {
-                match self.text_value(comparison.id, *kind, parts.as_slice(), state)? {
+                let text = self.parts_text(state, captures, parts.as_slice())?;
+                match text_value(self.alloc, self.dictionary, comparison.id, *kind, &text)? {
                     Some(value) => Ok(compared_beside(
                         &comparison.comparand,
                         relation,
@@ -141,32 +171,68 @@ impl Server<'_> {
         }
     }
 
-    /// Whether a condition is true after a code; nothing where a comparison ends it.
+    fn are_texts_met(
+        &self,
+        comparison: &ServerTextComparison,
+        state: &State,
+        captures: &Captures,
+    ) -> Result<bool, RunFault>
+        ensures { IfOk result (λ met.
+            met ≡ are_texts_met self.now comparison.now state.now captures.now) }
+    {
+        let left = self.parts_text(state, captures, comparison.left.as_slice())?;
+        let right = self.parts_text(state, captures, comparison.right.as_slice())?;
+        Ok(meets(comparison.relation, text_order(&left, &right)?))
+    }
+
+    /// Whether a condition is true after a code and what was captured; nothing where a comparison ends it.
     pub(crate) fn answer(
         &self,
         condition: &ServerCondition,
         state: &State,
         code: ServerCode,
-    ) -> Result<Option<bool>, AllocError>
-        ensures { IfOk result (λ made. made ≡ answer self.now condition.now state.now code) }
+        captures: Captures,
+    ) -> Result<Answered, RunFault>
+        ensures { IfOk result (λ made.
+            made ≡ answer self.now condition.now state.now code captures) }
     {
         match condition {
-            ServerCondition::Constant(value) => Ok(Some(*value)),
-            ServerCondition::Code(word) => Ok(Some(is_code(code, *word))),
-            ServerCondition::Present(list, id) => { Ok(Some(has_instance(state.list(*list), *id))) }
-            ServerCondition::Compare(comparison) => self.comparison_answer(comparison, state),
-            ServerCondition::Not(inner) => match self.answer(inner, state, code)? {
-                Some(truth) => Ok(Some(!truth)),
-                None => Ok(None),
-            },
-            ServerCondition::And(first, next) => match self.answer(first, state, code)? {
-                Some(true) => self.answer(next, state, code),
-                ended => Ok(ended),
-            },
-            ServerCondition::Or(first, next) => match self.answer(first, state, code)? {
-                Some(false) => self.answer(next, state, code),
-                ended => Ok(ended),
-            },
+            ServerCondition::Constant(value) => Ok(Answered::of(Some(*value), captures)),
+            ServerCondition::Code(word) => Ok(Answered::of(Some(is_code(code, *word)), captures)),
+            ServerCondition::Present(list, id) => {
+                let is_there = has_instance(state.list(*list), *id);
+                Ok(Answered::of(Some(is_there), captures))
+            }
+            ServerCondition::Compare(comparison) => {
+                let answer = self.comparison_answer(comparison, state, &captures)?;
+                Ok(Answered::of(answer, captures))
+            }
+            ServerCondition::CompareTexts(comparison) => {
+                let is_met = self.are_texts_met(comparison, state, &captures)?;
+                Ok(Answered::of(Some(is_met), captures))
+            }
+            ServerCondition::Match(matching) => self.match_answer(matching, state, captures),
+            ServerCondition::MatchText(matching) => self.text_match_answer(matching, state),
+            ServerCondition::MatchGroup(matching) => self.group_match_answer(matching, &captures),
+            ServerCondition::Captured(group) => {
+                let is_there = !captured(&captures, *group).is_empty();
+                Ok(Answered::of(Some(is_there), captures))
+            }
+            ServerCondition::Not(inner) => Ok(self.answer(inner, state, code, captures)?.denied()),
+            ServerCondition::And(first, next) => {
+                let first = self.answer(first, state, code, captures)?;
+                match first.answer {
+                    Some(true) => self.answer(next, state, code, first.captures),
+                    _ => Ok(first),
+                }
+            }
+            ServerCondition::Or(first, next) => {
+                let first = self.answer(first, state, code, captures)?;
+                match first.answer {
+                    Some(false) => self.answer(next, state, code, first.captures),
+                    _ => Ok(first),
+                }
+            }
         }
     }
 }

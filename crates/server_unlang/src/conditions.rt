@@ -1,7 +1,7 @@
 use crate::codes::ServerCode;
 use crate::tree::{ServerParts, TextType};
 use avp_lists::{AttrId, List, Value};
-use avp_unlang::Relation;
+use avp_unlang::{GroupMatching, Matching, Relation};
 
 /// What the first instance of an attribute is compared with.
 #[derive(Debug, Drop)]
@@ -25,6 +25,15 @@ pub struct ServerComparison {
     pub comparand: ServerComparand,
 }
 
+/// A comparison of two texts, of which the left one is no expansion of an attribute by itself beside a text without
+/// expansions: that is a comparison of the attribute (`pass2_callback`, modcall.c).
+#[derive(Debug, Drop)]
+pub struct ServerTextComparison {
+    pub left: ServerParts,
+    pub relation: Relation,
+    pub right: ServerParts,
+}
+
 /// A condition of a server. `&&` and `||` have no precedence there: what follows one of them is one condition, to the
 /// end of the brackets.
 #[derive(Debug, Drop)]
@@ -36,6 +45,15 @@ pub enum ServerCondition {
     /// Whether the attribute has an instance.
     Present(List, AttrId),
     Compare(ServerComparison),
+    CompareTexts(ServerTextComparison),
+    /// A comparison of the first instance of an attribute with a pattern.
+    Match(Matching),
+    /// `"%{Name}" =~ /../`: as `Match`, of a text that is empty where there is no instance.
+    MatchText(Matching),
+    /// `"%{1}" =~ /../`: a comparison of what was captured of a group with a pattern.
+    MatchGroup(GroupMatching),
+    /// `"%{0}"` to `"%{9}"`: whether an octet or more was captured of this group.
+    Captured(u8),
     Not(Box<ServerCondition>),
     And(Box<ServerCondition>, Box<ServerCondition>),
     Or(Box<ServerCondition>, Box<ServerCondition>),

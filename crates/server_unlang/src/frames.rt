@@ -1,6 +1,7 @@
 ghost use Rattle.std.specs.Prelude.{◌≡◌};
-ghost use Rattle.server_unlang.specs.Frames.{asked_code, begun, entered, left, with_action, with_inner};
+ghost use Rattle.server_unlang.specs.Frames.{asked_code, at_place, begun, entered, left, with_action, with_inner};
 
+use crate::captures::Captures;
 use crate::codes::{Action, ServerCode};
 use avp_lists::State;
 
@@ -19,10 +20,11 @@ pub struct Place {
     pub has_left: bool,
 }
 
-/// The lists, and where the run of a block is that edits them.
+/// The lists and what was captured, and where the run of a block is.
 #[derive(Debug, Drop)]
 pub struct Frame {
     pub state: State,
+    pub captures: Captures,
     pub place: Place,
 }
 
@@ -88,25 +90,30 @@ impl Place {
 }
 
 impl Frame {
+    /// The same lists and captures at another place.
+    pub(crate) fn at_place(self, place: Place) -> Frame
+        ensures { result ≡ at_place place self }
+    {
+        Frame { place, ..self }
+    }
+
     /// What a block in this one begins with.
     pub(crate) fn entered(self) -> Frame
         ensures { result ≡ entered self }
     {
-        let Frame { state, place } = self;
-        let place = Place::begun(place.code);
-        Frame { state, place }
+        let place = Place::begun(self.place.code);
+        self.at_place(place)
     }
 
     /// The section is left.
     pub(crate) fn left(self) -> Frame
         ensures { result ≡ left self }
     {
-        let Frame { state, place } = self;
         let place = Place {
             has_ended: true,
             has_left: true,
-            ..place
+            ..self.place
         };
-        Frame { state, place }
+        self.at_place(place)
     }
 }

@@ -5,18 +5,24 @@
 #![tactic(auto)]
 
 mod answering;
+mod captures;
 mod codes;
 mod conditions;
 mod edits;
+mod faults;
 mod frames;
 mod lines;
+mod orders;
 mod running;
+mod searching;
 mod servers;
 mod texts;
 mod tree;
 
+pub use captures::{Captures, no_captures};
 pub use codes::{Action, Section, ServerCode};
-pub use conditions::{ServerComparand, ServerComparison, ServerCondition};
+pub use conditions::{ServerComparand, ServerComparison, ServerCondition, ServerTextComparison};
+pub use faults::RunFault;
 pub use frames::{Frame, Place};
 pub use running::run_server;
 pub use servers::Server;

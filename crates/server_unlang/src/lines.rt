@@ -4,10 +4,11 @@ ghost use Rattle.std.specs.Prelude.{◌≡◌, IfOk};
 ghost use Rattle.server_unlang.specs.Lines.{sourced, update_run, with_value};
 ghost use Rattle.avp_lists.specs.States.{with_list};
 
+use crate::captures::Captures;
 use crate::codes::ServerCode;
 use crate::edits::server_apply;
 use crate::servers::Server;
-use crate::texts::first_instance;
+use crate::texts::{first_instance, text_value};
 use crate::tree::{ServerLine, ServerSource};
 use avp_lists::{AttrId, List, Octets, Pair, Pairs, State, Value};
 use std::alloc::AllocError;
@@ -52,11 +53,13 @@ fn with_list(list: List, pairs: Pairs, state: State) -> State
 impl Server<'_> {
     fn sourced(
         &self,
+        captures: &Captures,
         id: AttrId,
         source: &ServerSource,
         state: &State,
     ) -> Result<Sourced, AllocError>
-        ensures { IfOk result (λ given. given ≡ sourced self.now id source.now state.now) }
+        ensures { IfOk result (λ given.
+            given ≡ sourced self.now captures.now id source.now state.now) }
     {
         match source {
             ServerSource::Literal(value) => Ok(Sourced::Given(value.copy(self.alloc)?)),
@@ -65,7 +68,8 @@ impl Server<'_> {
                 None => Ok(Sourced::Skipped),
             },
             ServerSource::Text(kind, parts) => {
-                match self.text_value(id, *kind, parts.as_slice(), state)? {
+                let text = self.parts_text(state, captures, parts.as_slice())?;
+                match text_value(self.alloc, self.dictionary, id, *kind, &text)? {
                     Some(value) => Ok(Sourced::Given(value)),
                     None => Ok(Sourced::Failed),
                 }
@@ -86,14 +90,16 @@ impl Server<'_> {
 
     pub(crate) fn update_run(
         &self,
+        captures: &Captures,
         lines: &[ServerLine],
         state: State,
     ) -> Result<Updated, AllocError>
-        ensures { IfOk result (λ updated. updated ≡ update_run self.now lines.now state) }
+        ensures { IfOk result (λ updated.
+            updated ≡ update_run self.now captures.now lines.now state) }
     {
         let mut state = state;
         for line in lines {
-            match self.sourced(line.id, &line.source, &state)? {
+            match self.sourced(captures, line.id, &line.source, &state)? {
                 Sourced::Given(value) => state = self.with_value(line, value, state)?,
                 Sourced::Skipped => {}
                 Sourced::Failed => {

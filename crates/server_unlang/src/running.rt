@@ -4,13 +4,15 @@ ghost use Rattle.std.specs.Prelude.{◌≡◌, IfOk, Some, is_none, map};
 ghost use Rattle.std.specs.List.{find};
 ghost use Rattle.std.specs.Option.{option_copied};
 ghost use Rattle.avp_unlang.specs.Truth.{first_value};
-ghost use Rattle.server_unlang.specs.Answers.{answer, is_true};
-ghost use Rattle.server_unlang.specs.Frames.{asked_code};
+ghost use Rattle.server_unlang.specs.Answers.{is_true};
+ghost use Rattle.server_unlang.specs.Frames.{at_place};
 ghost use Rattle.server_unlang.specs.Lines.{update_run};
-ghost use Rattle.server_unlang.specs.Running.{action_of, after_case, after_inner, after_update, any_case, block_run, case_choice, case_run, choice, chosen_case, empty_case, first_case, first_true, has_value, in_order, is_of, run, server_run, switch_run, with_code};
+ghost use Rattle.server_unlang.specs.Running.{action_of, after_asking, after_case, after_inner, after_update, any_case, asked, block_run, case_choice, case_run, choice, chosen_case, empty_case, first_case, first_true, has_value, in_order, is_of, run, server_run, switch_run, with_code};
 
-use crate::answering::{compared, is_true};
+use crate::answering::{Answered, compared, is_true};
+use crate::captures::Captures;
 use crate::codes::{Action, ServerCode};
+use crate::faults::RunFault;
 use crate::frames::{Frame, Place};
 use crate::servers::Server;
 use crate::texts::first_instance;
@@ -18,6 +20,13 @@ use crate::tree::{OwnAction, ServerBranch, ServerCase, ServerLine, ServerStateme
 use avp_lists::{AttrId, List, State, Value};
 use avp_unlang::Relation;
 use std::alloc::AllocError;
+
+// Whether a branch is taken, and the frame after its condition.
+#[derive(Drop)]
+struct Asked {
+    is_taken: bool,
+    frame: Frame,
+}
 
 fn is_of(code: ServerCode, own: &OwnAction) -> bool
     ensures { result ≡ is_of code own.now }
@@ -35,19 +44,17 @@ fn own_action(actions: &[OwnAction], code: ServerCode) -> Option<&OwnAction>
 fn empty_case(frame: Frame) -> Frame
     ensures { result ≡ empty_case frame }
 {
-    let Frame { state, place } = frame;
-    let place = place.with_action(Action::Return, ServerCode::Noop);
-    Frame { state, place }
+    let place = frame.place.with_action(Action::Return, ServerCode::Noop);
+    frame.at_place(place)
 }
 
 fn after_case(outer: Place, inner: Frame) -> Frame
     ensures { result ≡ after_case outer inner }
 {
-    let Frame { state, place } = inner;
     let place = outer
-        .with_inner(place)
-        .with_action(Action::Return, place.code);
-    Frame { state, place }
+        .with_inner(inner.place)
+        .with_action(Action::Return, inner.place.code);
+    inner.at_place(place)
 }
 
 impl Server<'_> {
@@ -69,17 +76,12 @@ impl Server<'_> {
     fn after_inner(&self, actions: &[OwnAction], outer: Place, inner: Frame) -> Frame
         ensures { result ≡ after_inner self.now actions.now outer inner }
     {
-        let Frame { state, place } = inner;
-        let place = self.with_code(actions, place.code, outer.with_inner(place));
-        Frame { state, place }
+        let place = self.with_code(actions, inner.place.code, outer.with_inner(inner.place));
+        inner.at_place(place)
     }
 
     #[cycle(runs)]
-    fn run_in_order(
-        &self,
-        statements: &[ServerStatement],
-        frame: Frame,
-    ) -> Result<Frame, AllocError>
+    fn run_in_order(&self, statements: &[ServerStatement], frame: Frame) -> Result<Frame, RunFault>
         ensures { IfOk result (λ after.
             after ≡ in_order (map (run self.now) statements.now) frame) }
     {
@@ -100,7 +102,7 @@ impl Server<'_> {
         actions: &[OwnAction],
         block: &[ServerStatement],
         frame: Frame,
-    ) -> Result<Frame, AllocError>
+    ) -> Result<Frame, RunFault>
         ensures { IfOk result (λ after.
             after ≡ block_run self.now actions.now (map (run self.now) block.now) frame) }
     {
@@ -114,40 +116,60 @@ impl Server<'_> {
 
     #[cycle(runs)]
     #[tactic(auto, using(crate::proofs::Runs::choice_out))]
-    fn run_branch(&self, branch: &ServerBranch, frame: Frame) -> Result<Frame, AllocError>
+    fn run_branch(&self, branch: &ServerBranch, frame: Frame) -> Result<Frame, RunFault>
         ensures { IfOk result (λ after. after ≡ block_run self.now
             (choice self.now branch.now).actions (choice self.now branch.now).block frame) }
     {
         self.run_block(branch.actions.as_slice(), branch.block.as_slice(), frame)
     }
 
+    // Whether a branch is taken, and what was captured by then.
     #[tactic(auto, using(crate::proofs::Runs::choice_out))]
-    fn is_taken(&self, branch: &ServerBranch, frame: &Frame) -> Result<bool, AllocError>
-        ensures { IfOk result (λ taken. taken
-            ≡ is_true (answer self.now (choice self.now branch.now).condition frame.now.state
-            (asked_code frame.now.place))) }
+    fn ask(&self, branch: &ServerBranch, frame: Frame) -> Result<Asked, RunFault>
+        ensures taken { IfOk result (λ after. after.is_taken
+            ≡ is_true (asked self.now (choice self.now branch.now).condition frame).answer) }
+        ensures frame { IfOk result (λ after. after.frame
+            ≡ after_asking self.now (choice self.now branch.now).condition frame) }
     {
-        let code = frame.place.asked_code();
-        let answer = self.answer(&branch.condition, &frame.state, code)?;
-        Ok(is_true(answer))
+        let Frame {
+            state,
+            captures,
+            place,
+        } = frame;
+        let code = place.asked_code();
+        let Answered { answer, captures } = self.answer(&branch.condition, &state, code, captures)?;
+        Ok(Asked {
+            is_taken: is_true(answer),
+            frame: Frame {
+                state,
+                captures,
+                place,
+            },
+        })
     }
 
     #[cycle(runs)]
-    fn run_first_true(&self, branches: &[ServerBranch], frame: Frame) -> Result<Frame, AllocError>
+    fn run_first_true(&self, branches: &[ServerBranch], frame: Frame) -> Result<Frame, RunFault>
         ensures { IfOk result (λ after.
             after ≡ first_true self.now (map (choice self.now) branches.now) frame) }
     {
+        let mut frame = frame;
         for branch in branches {
-            if self.is_taken(branch, &frame)? {
-                return self.run_branch(branch, frame);
+            let Asked {
+                is_taken,
+                frame: after,
+            } = self.ask(branch, frame)?;
+            if is_taken {
+                return self.run_branch(branch, after);
             }
+            frame = after;
         }
         Ok(frame)
     }
 
     // The block of a case.
     #[cycle(runs)]
-    fn run_case(&self, block: &[ServerStatement], frame: Frame) -> Result<Frame, AllocError>
+    fn run_case(&self, block: &[ServerStatement], frame: Frame) -> Result<Frame, RunFault>
         ensures { IfOk result (λ after.
             after ≡ case_run (map (run self.now) block.now) frame) }
     {
@@ -161,7 +183,7 @@ impl Server<'_> {
 
     #[cycle(runs)]
     #[tactic(auto, using(crate::proofs::Runs::case_out))]
-    fn run_whole_case(&self, case: &ServerCase, frame: Frame) -> Result<Frame, AllocError>
+    fn run_whole_case(&self, case: &ServerCase, frame: Frame) -> Result<Frame, RunFault>
         ensures { IfOk result (λ after.
             after ≡ case_run (case_choice self.now case.now).block frame) }
     {
@@ -178,7 +200,7 @@ impl Server<'_> {
     // The case for any other value.
     #[cycle(runs)]
     #[tactic(auto, using(crate::proofs::Runs::case_out))]
-    fn run_any_case(&self, cases: &[ServerCase], frame: Frame) -> Result<Frame, AllocError>
+    fn run_any_case(&self, cases: &[ServerCase], frame: Frame) -> Result<Frame, RunFault>
         ensures { IfOk result (λ after.
             after ≡ any_case (map (case_choice self.now) cases.now) frame) }
     {
@@ -206,7 +228,7 @@ impl Server<'_> {
         value: &Value,
         cases: &[ServerCase],
         frame: Frame,
-    ) -> Result<Frame, AllocError>
+    ) -> Result<Frame, RunFault>
         ensures { IfOk result (λ after. after ≡ first_case value.now
             (map (case_choice self.now) cases.now)
             (any_case (map (case_choice self.now) cases.now)) frame) }
@@ -225,7 +247,7 @@ impl Server<'_> {
         value: Option<Value>,
         cases: &[ServerCase],
         frame: Frame,
-    ) -> Result<Frame, AllocError>
+    ) -> Result<Frame, RunFault>
         ensures { IfOk result (λ after. after ≡ chosen_case value
             (map (case_choice self.now) cases.now) frame) }
     {
@@ -256,7 +278,7 @@ impl Server<'_> {
         id: AttrId,
         cases: &[ServerCase],
         frame: Frame,
-    ) -> Result<Frame, AllocError>
+    ) -> Result<Frame, RunFault>
         ensures { IfOk result (λ after. after
             ≡ switch_run self.now list id (map (case_choice self.now) cases.now) frame) }
     {
@@ -266,30 +288,35 @@ impl Server<'_> {
         Ok(self.after_inner(&[], place, inner))
     }
 
-    fn run_update(&self, lines: &[ServerLine], frame: Frame) -> Result<Frame, AllocError>
+    fn run_update(&self, lines: &[ServerLine], frame: Frame) -> Result<Frame, RunFault>
         ensures { IfOk result (λ after. after
-            ≡ after_update self.now (update_run self.now lines.now frame.state) frame) }
+            ≡ after_update self.now (update_run self.now frame.captures lines.now frame.state)
+            frame) }
     {
-        let Frame { state, place } = frame;
-        let updated = self.update_run(lines, state)?;
+        let Frame {
+            state,
+            captures,
+            place,
+        } = frame;
+        let updated = self.update_run(&captures, lines, state)?;
         Ok(Frame {
             state: updated.state,
+            captures,
             place: self.with_code(&[], updated.code, place),
         })
     }
 
     fn run_call(&self, actions: &[OwnAction], code: ServerCode, frame: Frame) -> Frame
         ensures { result
-            ≡ record frame { place = with_code self.now actions.now code frame.place } }
+            ≡ at_place (with_code self.now actions.now code frame.place) frame }
     {
-        let Frame { state, place } = frame;
-        let place = self.with_code(actions, code, place);
-        Frame { state, place }
+        let place = self.with_code(actions, code, frame.place);
+        frame.at_place(place)
     }
 
     #[cycle(runs)]
     #[tactic(auto, using(crate::proofs::Runs::run_update, crate::proofs::Runs::run_if, crate::proofs::Runs::run_group, crate::proofs::Runs::run_switch, crate::proofs::Runs::run_call, crate::proofs::Runs::run_return))]
-    fn run(&self, statement: &ServerStatement, frame: Frame) -> Result<Frame, AllocError>
+    fn run(&self, statement: &ServerStatement, frame: Frame) -> Result<Frame, RunFault>
         ensures { IfOk result (λ after. after ≡ run self.now statement.now frame) }
     {
         match statement {
@@ -309,15 +336,22 @@ impl Server<'_> {
     }
 }
 
-/// What a server makes of a section, from these lists: the last lists, the code, and whether the section was left.
-/// Where memory runs out there is none.
+/// What a server makes of a section, from these lists and what was captured before it: the last lists, what was captured
+/// last, the code, and whether the section was left.
 pub fn run_server(
     server: &Server<'_>,
     statements: &[ServerStatement],
     state: State,
-) -> Result<Frame, AllocError>
-    ensures { IfOk result (λ after. after ≡ server_run server.now statements.now state) }
+    captures: Captures,
+) -> Result<Frame, RunFault>
+    ensures { IfOk result (λ after.
+        after ≡ server_run server.now statements.now state captures) }
 {
     let place = Place::begun(server.section.first_code());
-    server.run_in_order(statements, Frame { state, place })
+    let frame = Frame {
+        state,
+        captures,
+        place,
+    };
+    server.run_in_order(statements, frame)
 }

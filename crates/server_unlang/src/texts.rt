@@ -9,6 +9,7 @@ ghost use Rattle.avp_lists.specs.Instances.{first_instance, has_id};
 ghost use Rattle.avp_lists.specs.States.{list_of};
 ghost use Rattle.server_unlang.specs.Texts.{instance_put, part_text, parts_text, text_value};
 
+use crate::captures::{Captures, captured};
 use crate::servers::Server;
 use crate::tree::{ServerPart, TextType};
 use avp_dict::{Dictionary, Named, ValueFault};
@@ -48,10 +49,11 @@ fn push_part(
     text: &mut Vec<u8>,
     dictionary: &Dictionary,
     state: &State,
+    captures: &Captures,
     part: &ServerPart,
 ) -> Result<(), AllocError>
     ensures { OnOk result (text.new.items
-        ≡ text.old.items ++ part_text dictionary.now state.now part.now) }
+        ≡ text.old.items ++ part_text dictionary.now state.now captures.now part.now) }
 {
     match part {
         ServerPart::Text(octets) => text.extend_from_slice(octets.as_slice()),
@@ -59,6 +61,7 @@ fn push_part(
             Some(pair) => push_instance(text, dictionary, pair),
             None => Ok(()),
         },
+        ServerPart::Capture(group) => text.extend_from_slice(captured(captures, *group)),
     }
 }
 
@@ -79,9 +82,9 @@ fn spelled_value(
     }
 }
 
-// The value of a text.
+/// The value that a text stands for under the name of an attribute, if there is one.
 #[tactic(auto, unfolding(crate::specs::Texts::text_value))]
-fn text_value(
+pub(crate) fn text_value(
     alloc: Global,
     dictionary: &Dictionary,
     id: AttrId,
@@ -98,29 +101,19 @@ fn text_value(
 }
 
 impl Server<'_> {
-    fn parts_text(&self, parts: &[ServerPart], state: &State) -> Result<Vec<u8>, AllocError>
+    pub(crate) fn parts_text(
+        &self,
+        state: &State,
+        captures: &Captures,
+        parts: &[ServerPart],
+    ) -> Result<Vec<u8>, AllocError>
         ensures { IfOk result (λ text.
-            text.items ≡ parts_text self.now.dictionary state.now parts.now) }
+            text.items ≡ parts_text self.now.dictionary state.now captures.now parts.now) }
     {
         let mut text = Vec::new(self.alloc);
         for part in parts {
-            push_part(&mut text, self.dictionary, state, part)?;
+            push_part(&mut text, self.dictionary, state, captures, part)?;
         }
         Ok(text)
-    }
-
-    /// The value that a text with expansions stands for under the name of an attribute, if there is one.
-    pub(crate) fn text_value(
-        &self,
-        id: AttrId,
-        kind: TextType,
-        parts: &[ServerPart],
-        state: &State,
-    ) -> Result<Option<Value>, AllocError>
-        ensures { IfOk result (λ value. value ≡ text_value self.now.dictionary id kind
-            (parts_text self.now.dictionary state.now parts.now)) }
-    {
-        let text = self.parts_text(parts, state)?;
-        text_value(self.alloc, self.dictionary, id, kind, &text)
     }
 }

@@ -1,4 +1,4 @@
-//! A section after its macros, as a tree. What a later landing adds, as captures and conversions, has no variant yet.
+//! A section after its macros, as a tree. What a later landing adds, as conversions, has no variant yet.
 
 use crate::codes::{Action, ServerCode};
 use crate::conditions::ServerCondition;
@@ -12,6 +12,8 @@ pub enum ServerPart {
     Text(Octets),
     /// `%{list:name}`: the first instance of the attribute.
     Instance(List, AttrId),
+    /// `%{0}` to `%{9}`: what was captured of this group.
+    Capture(u8),
 }
 
 pub type ServerParts = Items<ServerPart>;
